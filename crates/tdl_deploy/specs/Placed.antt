@@ -1,0 +1,55 @@
+use Rattle.std.specs.Prelude.{ℕ, ◌+◌, ◌*◌, ◌==◌, Bool, true, false, not, ◌&&◌, ◌||◌, List, [], ◌∷◌, Option, Some, None, option_map, unwrap_or, slice_get, map, sum}
+use Rattle.std.specs.List.{list_any}
+use Rattle.tdl_base.specs.declared.numbers.ModuleId.{ModuleId}
+use Rattle.tdl_base.specs.declared.kinds.Kind.{Kind}
+use Rattle.tdl_base.specs.declared.kinds.Kind.TheVariants.{Boolean, Byte, Short, Int, Long}
+use Rattle.tdl_mode.specs.declared.program.Program.{Program}
+use Rattle.tdl_mode.specs.declared.program.Module.{Module}
+use Rattle.tdl_mode.specs.declared.program.Task.{Task}
+use Rattle.tdl_deploy.specs.declared.placement.Placement.{Placement}
+use Rattle.tdl_deploy.specs.declared.placement.PlacedNode.{PlacedNode}
+use Rattle.tdl_deploy.specs.declared.placement.BusCost.{BusCost}
+
+abbrev pub is_among : ℕ → List ModuleId → Bool
+is_among m ids = list_any (λ i. i.0 == m) ids
+
+abbrev pub hosted_on : Placement → ℕ → List ModuleId
+hosted_on placement node = unwrap_or (option_map (λ n. n.modules) (slice_get placement.nodes node)) []
+
+-- the node hosts module m
+abbrev pub hosts : Placement → ℕ → ℕ → Bool
+hosts placement node m = is_among m (hosted_on placement node)
+
+abbrev pub imports_of : Program → ℕ → List ModuleId
+imports_of program m = unwrap_or (option_map (λ d. d.imports) (slice_get program.modules m)) []
+
+-- some module that the node hosts imports module m directly
+abbrev pub imports : Program → Placement → ℕ → ℕ → Bool
+imports program placement node m = list_any (λ h. is_among m (imports_of program h.0)) (hosted_on placement node)
+
+-- the node sees a task of module m: its own, or a public one of a module that its own import directly
+abbrev pub sees : Program → Placement → ℕ → ℕ → Task → Bool
+sees program placement node m task = hosts placement node m || (task.public && imports program placement node m)
+
+-- a task of module m is remote where it is public and a module that imports its module is on another node
+abbrev pub is_remote : Program → Placement → ℕ → Task → Bool
+is_remote program placement m task = task.public && list_any elsewhere placement.nodes
+  where
+    elsewhere : PlacedNode → Bool
+    elsewhere n = not (is_among m n.modules) && list_any (λ h. is_among m (imports_of program h.0)) n.modules
+
+abbrev pub port_bytes : Kind → ℕ
+port_bytes Boolean = 1
+port_bytes Byte = 1
+port_bytes Short = 2
+port_bytes Int = 4
+port_bytes Long = 8
+
+-- the bytes of a frame of a task
+abbrev pub frame_len : Task → ℕ
+frame_len task = 7 + sum (map (λ o. port_bytes o.kind) task.outputs)
+
+-- the microseconds that a frame takes on the bus
+abbrev pub duration_of : Placement → Task → ℕ
+duration_of placement task =
+    unwrap_or (option_map (λ c. c.overhead) placement.bus) 0 + frame_len task * unwrap_or (option_map (λ c. c.per_byte) placement.bus) 0

@@ -1,0 +1,4 @@
+pub mod Offsets
+pub mod States
+pub mod Phases
+pub mod Instants

@@ -1,0 +1,61 @@
+use Rattle.std.specs.Prelude.{ℕ, ℤ, List, [], ◌∷◌, ◌++◌, Option, Some, None, option_map, option_and_then, unwrap_or, slice_get, find, codes, ◌==◌}
+use Rattle.std.specs.List.{flat_map}
+use Rattle.std.specs.Fmt.{decimal, signed_decimal}
+use Rattle.tdl_trace.specs.declared.names.Names.{Names}
+use Rattle.tdl_trace.specs.declared.names.ModuleNames.{ModuleNames}
+use Rattle.tdl_trace.specs.declared.names.TaskNames.{TaskNames}
+use Rattle.tdl_trace.specs.declared.names.Named.{Named}
+use Rattle.tdl_trace.specs.Shown.{Shown}
+
+-- a text is a list of bytes
+abbrev pub Bytes : Type 0
+Bytes = List ℕ
+
+-- a name that is there, or no bytes
+abbrev pub or_empty : Option Bytes → Bytes
+or_empty name = unwrap_or name []
+
+abbrev pub module_at : Names → ℕ → Option ModuleNames
+module_at names m = find (λ n. n.number.0 == m) names.modules
+
+abbrev pub task_at : Names → ℕ → ℕ → Option TaskNames
+task_at names m t = option_and_then (λ n. slice_get n.tasks t) (module_at names m)
+
+abbrev pub node_name : Names → ℕ → Bytes
+node_name names node = or_empty (slice_get names.nodes node)
+
+abbrev pub module_name : Names → ℕ → Bytes
+module_name names m = or_empty (option_map (λ n. n.name) (module_at names m))
+
+abbrev pub mode_name : Names → ℕ → ℕ → Bytes
+mode_name names m mode = or_empty (option_and_then (λ n. slice_get n.modes mode) (module_at names m))
+
+abbrev pub actuator_name : Names → ℕ → ℕ → Bytes
+actuator_name names m a = or_empty (option_map (λ n. n.name) (option_and_then (λ n. slice_get n.actuators a) (module_at names m)))
+
+abbrev pub task_name : Names → ℕ → ℕ → Bytes
+task_name names m t = or_empty (option_map (λ n. n.name) (task_at names m t))
+
+abbrev pub output_name : Names → ℕ → ℕ → ℕ → Bytes
+output_name names m t o = or_empty (option_map (λ n. n.name) (option_and_then (λ n. slice_get n.outputs o) (task_at names m t)))
+
+-- how a line begins: the instant, the node and what the row is
+abbrev pub head_of : Names → ℕ → ℕ → Bytes → Bytes
+head_of names at node word = decimal at ++ codes " " ++ node_name names node ++ word
+
+-- how a line with a number ends
+abbrev pub value_end : ℤ → Bytes
+value_end v = codes " " ++ signed_decimal v ++ codes "\n"
+
+-- the printed line of a row, with its line end
+abbrev pub line_of : Names → Shown → Bytes
+line_of names (Shown.Committed at node m t o v) =
+    head_of names at node (codes " port ") ++ module_name names m ++ codes "." ++ task_name names m t ++ codes "." ++ output_name names m t o ++ value_end v
+line_of names (Shown.Updated at node m a v) =
+    head_of names at node (codes " act ") ++ module_name names m ++ codes "." ++ actuator_name names m a ++ value_end v
+line_of names (Shown.Entered at node m mode) =
+    head_of names at node (codes " mode ") ++ module_name names m ++ codes " " ++ mode_name names m mode ++ codes "\n"
+
+-- the lines of rows, in order
+unfoldable pub text_of : Names → List Shown → Bytes
+text_of names rows = flat_map (line_of names) rows

@@ -1,0 +1,10 @@
+//! What a run commits, row by row, and the printed line of each row.
+#![tactic(auto)]
+
+mod line;
+mod names;
+mod row;
+
+pub use line::print_row;
+pub use names::{ModuleNames, Named, Names, TaskNames};
+pub use row::{Row, Rows};
