@@ -4,15 +4,18 @@
 
 mod arithmetic;
 mod kinds;
+pub mod laws;
 pub mod limits;
 mod listed;
 mod memory;
 mod numbers;
+mod sensed;
 mod text;
 
-pub use arithmetic::{BinOp, UnOp};
-pub use kinds::Kind;
+pub use arithmetic::{BinOp, UnOp, bin, un};
+pub use kinds::{Kind, narrow, width};
 pub use listed::Listed;
 pub use memory::NoMemory;
 pub use numbers::{ModeId, ModuleId, NodeId, Place, PortKey, TaskId, Us};
+pub use sensed::Sensed;
 pub use text::Text;

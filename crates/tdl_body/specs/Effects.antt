@@ -1,7 +1,7 @@
 use Rattle.std.specs.Prelude.{ℕ, zero, suc, ℤ, pos, Bool, List, [], ◌∷◌, if◌then◌else◌, slice_index_or, slice_set, Option, Some, None}
 use Rattle.tdl_base.specs.declared.kinds.Kind.{Kind}
 use Rattle.tdl_base.specs.declared.kinds.Kind.TheVariants.{Long}
-use Rattle.tdl_base.specs.Numbers.{narrowed, is_zero}
+use Rattle.tdl_base.specs.Numbers.{narrowed, is_true}
 use Rattle.tdl_body.specs.declared.tree.Body.{Body}
 use Rattle.tdl_body.specs.declared.tree.Stmt.TheOpen.{Stmt-F, Body-F}
 use Rattle.tdl_body.specs.declared.tree.Stmt.TheFolds.{fold-Body}
@@ -39,7 +39,7 @@ or_nothing (Some f) cells = f cells
 abbrev pub stmt_step : Stmt-F (Cells → Cells) (Cells → Cells) → Cells → Cells
 stmt_step (Stmt-F.Assign k value) cells = stored k (value_of value (look_of_cells cells)) cells
 stmt_step (Stmt-F.If test then' other) cells =
-    if is_zero (value_of test (look_of_cells cells)) then or_nothing other cells else then' cells
+    if is_true (value_of test (look_of_cells cells)) then then' cells else or_nothing other cells
 stmt_step (Stmt-F.Repeat count block) cells = repeated count block cells
 
 abbrev pub block_step : Body-F (Cells → Cells) (Cells → Cells) → Cells → Cells

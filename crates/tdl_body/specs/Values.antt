@@ -1,8 +1,8 @@
-use Rattle.std.specs.Prelude.{ℕ, ℤ, pos, Bool, true, not, Option, Some, None}
+use Rattle.std.specs.Prelude.{ℕ, ℤ, pos, Bool, true, Option, Some, None}
 use Rattle.tdl_base.specs.declared.numbers.PortKey.{PortKey}
 use Rattle.tdl_base.specs.declared.numbers.Place.{Place}
 use Rattle.tdl_base.specs.declared.numbers.Place.TheVariants.{Sensor, Port, Cell}
-use Rattle.tdl_base.specs.Numbers.{unary, binary, is_zero}
+use Rattle.tdl_base.specs.Numbers.{unary, binary, is_true}
 use Rattle.tdl_body.specs.declared.tree.Expr.{Expr}
 use Rattle.tdl_body.specs.declared.tree.Expr.TheOpen.{Expr-F}
 use Rattle.tdl_body.specs.declared.tree.Expr.TheFolds.{fold-Expr}
@@ -33,4 +33,4 @@ value_of = fold-Expr (Look → ℤ) expr_step
 -- a guard holds where its number is not 0; an absent guard holds
 abbrev pub holds : Option Expr → Look → Bool
 holds None look = true
-holds (Some guard) look = not (is_zero (value_of guard look))
+holds (Some guard) look = is_true (value_of guard look)

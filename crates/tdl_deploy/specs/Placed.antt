@@ -1,8 +1,7 @@
 use Rattle.std.specs.Prelude.{ℕ, ◌+◌, ◌*◌, ◌==◌, Bool, true, false, not, ◌&&◌, ◌||◌, List, [], ◌∷◌, Option, Some, None, option_map, unwrap_or, slice_get, map, sum}
 use Rattle.std.specs.List.{list_any}
 use Rattle.tdl_base.specs.declared.numbers.ModuleId.{ModuleId}
-use Rattle.tdl_base.specs.declared.kinds.Kind.{Kind}
-use Rattle.tdl_base.specs.declared.kinds.Kind.TheVariants.{Boolean, Byte, Short, Int, Long}
+use Rattle.tdl_base.specs.Numbers.{width_of}
 use Rattle.tdl_mode.specs.declared.program.Program.{Program}
 use Rattle.tdl_mode.specs.declared.program.Module.{Module}
 use Rattle.tdl_mode.specs.declared.program.Task.{Task}
@@ -38,16 +37,9 @@ is_remote program placement m task = task.public && list_any elsewhere placement
     elsewhere : PlacedNode → Bool
     elsewhere n = not (is_among m n.modules) && list_any (λ h. is_among m (imports_of program h.0)) n.modules
 
-abbrev pub port_bytes : Kind → ℕ
-port_bytes Boolean = 1
-port_bytes Byte = 1
-port_bytes Short = 2
-port_bytes Int = 4
-port_bytes Long = 8
-
 -- the bytes of a frame of a task
 abbrev pub frame_len : Task → ℕ
-frame_len task = 7 + sum (map (λ o. port_bytes o.kind) task.outputs)
+frame_len task = 7 + sum (map (λ o. width_of o.kind) task.outputs)
 
 -- the microseconds that a frame takes on the bus
 abbrev pub duration_of : Placement → Task → ℕ

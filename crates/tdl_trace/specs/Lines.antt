@@ -59,3 +59,7 @@ line_of names (Shown.Entered at node m mode) =
 -- the lines of rows, in order
 unfoldable pub text_of : Names → List Shown → Bytes
 text_of names rows = flat_map (line_of names) rows
+
+-- the line of row i, where it is there
+abbrev pub line_at : Names → List Shown → ℕ → Bytes
+line_at names rows i = or_empty (option_map (line_of names) (slice_get rows i))

@@ -1,6 +1,6 @@
 ghost use Rattle.std.specs.Prelude.{◌≡◌, ◌++◌, ◌<◌, codes, length, slice_get, OnOk, IfSome};
 ghost use Rattle.std.specs.Fmt.{decimal, signed_decimal};
-ghost use Rattle.tdl_trace.specs.Lines.{head_of, line_of, node_name, value_end};
+ghost use Rattle.tdl_trace.specs.Lines.{head_of, line_at, line_of, value_end};
 ghost use Rattle.tdl_trace.specs.Shown.{shown_of};
 
 use crate::{Names, Row, Rows};
@@ -110,7 +110,7 @@ fn put_row(into: &mut Vec<u8>, names: &Names, row: &Row) -> Result<(), NoMemory>
 /// name's place.
 pub fn print_row(rows: &Rows, i: usize, names: &Names, into: &mut Vec<u8>) -> Result<(), NoMemory>
     requires { i < length rows.now }
-    ensures { OnOk result (IfSome (slice_get rows.now i) (λ row. into.new.items ≡ into.old.items ++ line_of names.now row)) }
+    ensures { OnOk result (into.new.items ≡ into.old.items ++ line_at names.now rows.now i) }
 {
     match rows.get(i) {
         None => unreachable!(),

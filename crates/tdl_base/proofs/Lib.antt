@@ -1,0 +1,4 @@
+pub mod Division
+pub mod LowBits
+pub mod NumberLaws
+pub mod SensedLemmas

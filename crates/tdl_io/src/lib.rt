@@ -1,0 +1,24 @@
+//! What the program reads and writes: files and sinks by their meaning, in memory and over the host.
+//!
+//! A fault is answered only where the count of faults of the object that was handed in rose. So code
+//! that is generic over these traits cannot give up by itself.
+#![tactic(auto)]
+
+mod files;
+mod host_files;
+mod host_sink;
+//mod mem_files;
+mod mem_sink;
+mod null_sink;
+//mod pieces;
+//mod quiet_files;
+mod sink;
+
+pub use files::{FileAnswer, Files};
+pub use host_files::HostFiles;
+pub use host_sink::HostSink;
+//pub use mem_files::MemFiles;
+pub use mem_sink::MemSink;
+pub use null_sink::NullSink;
+//pub use quiet_files::QuietFiles;
+pub use sink::{Sink, SinkFailed};

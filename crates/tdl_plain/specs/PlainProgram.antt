@@ -1,0 +1,68 @@
+use Rattle.std.specs.Prelude.{ℕ, ℤ, pos, ◌*◌, true, List, [], ◌∷◌, None}
+use Rattle.tdl_base.specs.declared.kinds.Kind.TheVariants.{Int}
+use Rattle.tdl_base.specs.declared.numbers.Place.TheVariants.{Sensor, Cell}
+use Rattle.tdl_base.specs.declared.arithmetic.BinOp.TheVariants.{Add}
+use Rattle.tdl_body.specs.declared.tree.Expr.TheVariants as expr
+use Rattle.tdl_body.specs.declared.tree.Stmt.TheVariants as stmt
+use Rattle.tdl_body.specs.declared.tree.Body.{Body}
+use Rattle.tdl_mode.specs.declared.program.Program.{Program}
+use Rattle.tdl_mode.specs.declared.program.Module.{Module}
+use Rattle.tdl_mode.specs.declared.program.Task.{Task}
+use Rattle.tdl_mode.specs.declared.program.Mode.{Mode}
+use Rattle.tdl_mode.specs.declared.program.Invocation.{Invocation}
+use Rattle.tdl_mode.specs.declared.program.PortDef.{PortDef}
+use Rattle.tdl_plain.specs.declared.form.Form.{Form}
+
+abbrev pub int_port : List ℕ → ℕ → PortDef
+int_port name initial = record { kind = Int; name = name; initial = pos initial }
+
+-- the output becomes the output plus the input; the input is cell 0, the output cell 1
+abbrev pub add_input : Body
+add_input = record { stmts = stmt.Assign 1 (expr.Bin Add (expr.Load (Cell 1)) (expr.Load (Cell 0))) ∷ [] }
+
+abbrev pub task_of : Form → Task
+task_of f = record {
+  name = f.task;
+  public = true;
+  worst = record { 0 = f.worst };
+  inputs = int_port f.input 0 ∷ [];
+  outputs = int_port f.output f.initial ∷ [];
+  locals = [];
+  body = add_input }
+
+-- the period in microseconds
+abbrev pub period_us : Form → ℕ
+period_us f = f.period * 1000
+
+-- the task with the sensor as its argument, over the whole period
+abbrev pub invocation_of : Form → Invocation
+invocation_of f = record {
+  act = 0;
+  task = record { 0 = 0 };
+  s = record { 0 = 0 };
+  e = record { 0 = period_us f };
+  guard = None;
+  args = expr.Load (Sensor 0) ∷ [] }
+
+abbrev pub mode_of : Form → Mode
+mode_of f = record {
+  name = f.mode;
+  period = record { 0 = period_us f };
+  invocations = invocation_of f ∷ [];
+  updates = [];
+  switches = [] }
+
+abbrev pub module_of : Form → Module
+module_of f = record {
+  name = f.«module»;
+  imports = [];
+  constants = [];
+  sensors = int_port f.sensor 0 ∷ [];
+  actuators = [];
+  tasks = task_of f ∷ [];
+  modes = mode_of f ∷ [];
+  start = record { 0 = 0 } }
+
+-- the program that a plain source says
+abbrev pub program_of : Form → Program
+program_of f = record { modules = module_of f ∷ [] }

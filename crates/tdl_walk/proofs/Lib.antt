@@ -1,0 +1,5 @@
+pub mod Laws
+pub mod Walking
+pub mod Appending
+pub mod Printing
+pub mod Running
