@@ -5,6 +5,7 @@ use Rattle.std.specs.Int.{int_wrap, cast_signed, cast_unsigned, w64}
 use Rattle.std.proofs.Math.Nat.{div-le_self}
 use Rattle.tdl_base.specs.Numbers.{quotient, wrapped}
 
+-- a number and its negative are equal without their signs
 unsigned_abs-neg : (n : ℕ) → unsigned_abs (neg_ℤ (pos n)) ≡ n
 unsigned_abs-neg zero = refl
 unsigned_abs-neg (suc n) = refl

@@ -1,5 +1,5 @@
 -- What the low bits of a 64-bit number are as a signed number of fewer bits.
-use Rattle.std.proofs.Common.{◌≡◌, ℕ, suc, ◌+◌, ◌-◌, ◌%◌, ◌^◌, ◌<◌, ℤ, pos, negsuc, refl, ap, arith}
+use Rattle.std.proofs.Common.{◌≡◌, ◌%◌, ℤ, pos, negsuc, refl, ap, arith}
 use Rattle.std.specs.Prelude.{FitsSigned}
 use Rattle.std.specs.Int.{int_wrap, cast_signed, cast_unsigned, w8, w16, w32, w64}
 

@@ -1,15 +1,15 @@
 -- What pins wrapping, narrowing and division.
-use Rattle.std.proofs.Common.{◌≡◌, ◌≢◌, ℕ, zero, suc, ◌+◌, ◌-◌, ◌*◌, ◌/◌, ◌%◌, ◌^◌, ◌<◌, ◌≤◌, Bool, true, false, ltb, ℤ, pos, negsuc, neg_ℤ, ◌+ℤ◌, ◌*ℤ◌, ◌≤ℤ◌, ◌<ℤ◌, refl, sym, ap, subst, ◌∙◌, inl, inr, arith}
-use Rattle.std.specs.Prelude.{FitsSigned, unsigned_abs, int_div, int_rem}
-use Rattle.std.specs.Int.{int_wrap, int_rem_euclid, cast_signed, cast_unsigned, Width, w8, w16, w32, w64}
-use Rattle.std.proofs.lemmas.Int.{ints, SFits-int_wrap, int_wrap_fits, quot-rem, rem_below}
+use Rattle.std.proofs.Common.{◌≡◌, ◌≢◌, ℕ, zero, suc, ◌+◌, ◌-◌, ◌*◌, ◌/◌, ◌^◌, ◌<◌, Bool, true, false, ltb, ℤ, pos, negsuc, ◌+ℤ◌, ◌*ℤ◌, ◌≤ℤ◌, refl, sym, ap, subst, ◌∙◌, inl, inr, arith}
+use Rattle.std.specs.Prelude.{unsigned_abs, int_div, int_rem}
+use Rattle.std.specs.Int.{int_wrap, int_rem_euclid, cast_signed, Width, w8, w16, w32, w64}
+use Rattle.std.proofs.lemmas.Int.{ints, SFits-int_wrap, quot-rem, rem_below}
 use Rattle.std.proofs.Math.Nat.{div-add-mod', mod-lt, mod-le}
 use lib.Pow.{pow_pos}
 use borrow.Author.Differences.{up, down, sum_is_lem}
 use mir.Val.{bits, hbits, sel}
 use Rattle.tdl_base.specs.declared.kinds.Kind.{Kind}
 use Rattle.tdl_base.specs.declared.kinds.Kind.TheVariants.{Boolean, Byte, Short, Int, Long}
-use Rattle.tdl_base.specs.Numbers.{wrapped, narrowed, width_of, truth, is_true, quotient, remainder, IsOfBits, IsOfKind, DifferByMultiple, Divides}
+use Rattle.tdl_base.specs.Numbers.{narrowed, width_of, truth, is_true, quotient, remainder, IsOfBits, IsOfKind, DifferByMultiple, DividesTowardZero}
 
 -- a number differs from its rest by a multiple of the divisor
 rest_differs : (m : ℕ) → 0 < m → (v : ℤ) → DifferByMultiple m v (int_rem_euclid v (pos m))
@@ -52,19 +52,23 @@ int_wrap_differs w v =
     not_negative m h (pos a) = (refl, mod-lt a h)
     not_negative m h (negsuc a) = (refl, omega (arith, mod-lt a h))
 
--- a number that fits a width is of its bits, and the other way
+-- a number wrapped to 64 bits is of 64 bits
 pub int_wrap_range-64 : (v : ℤ) → IsOfBits 64 (int_wrap w64 v)
 int_wrap_range-64 v = let fits = SFits-int_wrap w64 v in (omega (arith, ints), omega (arith, ints))
 
+-- one wrapped to 32 bits is of 32 bits
 pub int_wrap_range-32 : (v : ℤ) → IsOfBits 32 (int_wrap w32 v)
 int_wrap_range-32 v = let fits = SFits-int_wrap w32 v in (omega (arith, ints), omega (arith, ints))
 
+-- one wrapped to 16 bits is of 16 bits
 pub int_wrap_range-16 : (v : ℤ) → IsOfBits 16 (int_wrap w16 v)
 int_wrap_range-16 v = let fits = SFits-int_wrap w16 v in (omega (arith, ints), omega (arith, ints))
 
+-- one wrapped to 8 bits is of 8 bits
 pub int_wrap_range-8 : (v : ℤ) → IsOfBits 8 (int_wrap w8 v)
 int_wrap_range-8 v = let fits = SFits-int_wrap w8 v in (omega (arith, ints), omega (arith, ints))
 
+-- a truth is 0 or 1
 truth_is_boolean : (t : Bool) → IsOfKind Boolean (truth t)
 truth_is_boolean false = inl refl
 truth_is_boolean true = inr refl
@@ -85,17 +89,18 @@ narrowed_differs Short v other = int_wrap_differs w16 v
 narrowed_differs Int v other = int_wrap_differs w32 v
 narrowed_differs Long v other = int_wrap_differs w64 v
 
--- the rest has the sign of the number that is divided
+-- the rest of a number that is not negative is not negative
 rest_not_negative : (a b : ℤ) → pos 0 ≤ℤ a → pos 0 ≤ℤ int_rem a b
 rest_not_negative (pos a) b h = omega (arith, ints)
 rest_not_negative (negsuc a) b h = absurd (omega (arith, ints))
 
+-- the rest of a number that is not positive is not positive
 rest_not_positive : (a b : ℤ) → a ≤ℤ pos 0 → int_rem a b ≤ℤ pos 0
 rest_not_positive (pos a) b h = omega (arith, ints, mod-le a (unsigned_abs b))
 rest_not_positive (negsuc a) b h = omega (arith, ints)
 
 -- std's division rounds toward 0
-std_divides : (a b : ℤ) → 0 < unsigned_abs b → Divides a b (int_div a b) (int_rem a b)
+std_divides : (a b : ℤ) → 0 < unsigned_abs b → DividesTowardZero a b (int_div a b) (int_rem a b)
 std_divides a b some = record {
   parts = sym (quot-rem a b);
   smaller = rem_below a b some;
@@ -104,7 +109,7 @@ std_divides a b some = record {
 }
 
 -- and so does ours, by a divisor that is not 0
-pub divides_toward_zero : (a b : ℤ) → b ≢ pos 0 → Divides a b (quotient a b) (remainder a b)
+pub divides_toward_zero : (a b : ℤ) → b ≢ pos 0 → DividesTowardZero a b (quotient a b) (remainder a b)
 divides_toward_zero a (pos zero) other = absurd (other refl)
 divides_toward_zero a (pos (suc n)) other = std_divides a (pos (suc n)) (omega arith)
 divides_toward_zero a (negsuc n) other = std_divides a (negsuc n) (omega arith)

@@ -1,5 +1,5 @@
 -- What is read of sensed numbers after they are made and after one of them is set.
-use Rattle.std.proofs.Common.{◌≡◌, ◌≢◌, ℕ, zero, suc, ◌<◌, List, [], ◌∷◌, length, get_or, set, replicate, ℤ, pos, refl, sym, ap, subst, ◌∙◌, inl, inr, ⊎_elim, arith, get_or-set_same, get_or-set_other, length-set}
+use Rattle.std.proofs.Common.{◌≡◌, ◌≢◌, ℕ, zero, suc, ◌<◌, List, [], ◌∷◌, length, get_or, set, replicate, ℤ, pos, refl, sym, ap, ◌∙◌, inl, inr, ⊎_elim, arith, get_or-set_same, get_or-set_other, length-set}
 use Rattle.std.specs.Prelude.{◌⊎◌}
 use Rattle.std.proofs.Math.ListN.{get_or-map}
 use Rattle.std.proofs.lemmas.List.{length-replicate}
@@ -9,15 +9,18 @@ use Rattle.tdl_base.specs.Sensed.{all_zero, numbers_of, HasSensor, sensed_at, wi
 numbers_of-all_zero : (counts : List ℕ) (m : ℕ) → numbers_of (all_zero counts) m ≡ replicate (get_or counts m 0) (pos 0)
 numbers_of-all_zero counts m = get_or-map (λ n. replicate n (pos 0)) counts m 0
 
+-- a list of zeros reads 0 at each place
 get_or-zeros : (n i : ℕ) → get_or (replicate n (pos 0)) i (pos 0) ≡ pos 0
 get_or-zeros zero i = refl
 get_or-zeros (suc n) zero = refl
 get_or-zeros (suc n) (suc i) = get_or-zeros n i
 
+-- at first each sensor reads 0
 pub sensed_at-all_zero : (counts : List ℕ) (m i : ℕ) → sensed_at (all_zero counts) m i ≡ pos 0
 sensed_at-all_zero counts m i =
     ap (λ (xs : List ℤ). get_or xs i (pos 0)) (numbers_of-all_zero counts m) ∙ get_or-zeros (get_or counts m 0) i
 
+-- at first a module has as many sensors as `counts` says
 pub length-all_zero : (counts : List ℕ) (m : ℕ) → length (numbers_of (all_zero counts) m) ≡ get_or counts m 0
 length-all_zero counts m = ap length (numbers_of-all_zero counts m) ∙ length-replicate (get_or counts m 0) (pos 0)
 
@@ -52,7 +55,7 @@ sensed_at-with_sensed_other sensed m i n j v (inr other) =
     (λ e. ap (λ (xs : List ℤ). get_or xs j (pos 0)) e)
     (numbers_of-change sensed m n (set (numbers_of sensed m) i v))
 
--- and there are as many sensors as before
+-- a module has as many sensors as before
 pub length-with_sensed : (sensed : List (List ℤ)) (m i n : ℕ) (v : ℤ) → length (numbers_of (with_sensed sensed m i v) n) ≡ length (numbers_of sensed n)
 length-with_sensed sensed m i n v =
     ⊎_elim

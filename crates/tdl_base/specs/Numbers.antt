@@ -1,5 +1,5 @@
 -- The arithmetic of expressions, on whole numbers without a bound.
-use Rattle.std.specs.Prelude.{◌≡◌, ℕ, suc, zero, ◌+◌, ◌-◌, ◌^◌, ◌<◌, ◌==◌, Bool, true, false, not, ◌&&◌, ◌||◌, ◌⊎◌, ℤ, pos, negsuc, neg_ℤ, ◌+ℤ◌, ◌-ℤ◌, ◌*ℤ◌, ◌≤ℤ◌, ◌<ℤ◌, unsigned_abs, int_lt, int_le, int_div, int_rem}
+use Rattle.std.specs.Prelude.{◌≡◌, ℕ, zero, ◌-◌, ◌^◌, ◌<◌, Bool, true, false, not, ◌&&◌, ◌||◌, ◌⊎◌, ℤ, pos, neg_ℤ, ◌+ℤ◌, ◌-ℤ◌, ◌*ℤ◌, ◌≤ℤ◌, ◌<ℤ◌, unsigned_abs, int_lt, int_le, int_div, int_rem}
 use Rattle.std.specs.Int.{int_wrap, w8, w16, w32, w64}
 use Rattle.std.specs.Ordering.{int_eq}
 use Rattle.tdl_base.specs.declared.kinds.Kind.{Kind}
@@ -38,20 +38,22 @@ width_of Short = 2
 width_of Int = 4
 width_of Long = 8
 
--- a divided by b, rounded toward 0, and the rest; both are 0 where b is 0
+-- a divided by b, rounded toward 0; 0 where b is 0
 abbrev pub quotient : ℤ → ℤ → ℤ
 quotient a (pos zero) = pos 0
 quotient a b = int_div a b
 
+-- what that division leaves; 0 where b is 0
 abbrev pub remainder : ℤ → ℤ → ℤ
 remainder a (pos zero) = pos 0
 remainder a b = int_rem a b
 
--- what an operator gives on whole numbers
+-- what an operator with one operand gives on whole numbers
 abbrev pub exact_unary : UnOp → ℤ → ℤ
 exact_unary Neg a = neg_ℤ a
 exact_unary Not a = truth (not (is_true a))
 
+-- what an operator with two operands gives on whole numbers
 abbrev pub exact_binary : BinOp → ℤ → ℤ → ℤ
 exact_binary Add a b = a +ℤ b
 exact_binary Sub a b = a -ℤ b
@@ -67,10 +69,11 @@ exact_binary NotEqual a b = truth (not (int_eq a b))
 exact_binary And a b = truth (is_true a && is_true b)
 exact_binary Or a b = truth (is_true a || is_true b)
 
--- what it gives in 64 bits
+-- what an operator with one operand gives in 64 bits
 abbrev pub unary : UnOp → ℤ → ℤ
 unary op a = wrapped (exact_unary op a)
 
+-- what an operator with two operands gives in 64 bits
 abbrev pub binary : BinOp → ℤ → ℤ → ℤ
 binary op a b = wrapped (exact_binary op a b)
 
@@ -96,8 +99,8 @@ IsOfKind Long v = IsOfBits 64 v
 abbrev pub DifferByMultiple : ℕ → ℤ → ℤ → Type 0
 DifferByMultiple n a b = (k : ℤ) × (a ≡ b +ℤ k *ℤ pos n)
 
--- a divided by b is q, rounded toward 0, and r is left
-pub record Divides (a b q r : ℤ) : Type 0 where
+-- q is a divided by b, rounded toward 0, and r is what is left: it is smaller than b and has the sign of a
+pub record DividesTowardZero (a b q r : ℤ) : Type 0 where
   pub parts : a ≡ q *ℤ b +ℤ r
   pub smaller : unsigned_abs r < unsigned_abs b
   pub not_negative : pos 0 ≤ℤ a → pos 0 ≤ℤ r

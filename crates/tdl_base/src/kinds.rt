@@ -62,3 +62,51 @@ fn low_int(v: i64) -> i64
 {
     i64::from(((v.cast_unsigned() % 0x1_0000_0000) as u32).cast_signed())
 }
+
+#[cfg(test)]
+mod tests {
+    use super::*;
+
+    #[test]
+    fn ends_of_kinds(rt: HostRuntime) {
+        let rows = [
+            (Kind::Boolean, 0, 0),
+            (Kind::Boolean, 1, 1),
+            (Kind::Boolean, 2, 1),
+            (Kind::Boolean, -1, 1),
+            (Kind::Boolean, i64::MIN, 1),
+            (Kind::Byte, 127, 127),
+            (Kind::Byte, 128, -128),
+            (Kind::Byte, -128, -128),
+            (Kind::Byte, -129, 127),
+            (Kind::Byte, 300, 44),
+            (Kind::Short, 32_767, 32_767),
+            (Kind::Short, 32_768, -32_768),
+            (Kind::Short, -32_768, -32_768),
+            (Kind::Short, -32_769, 32_767),
+            (Kind::Int, 2_147_483_647, 2_147_483_647),
+            (Kind::Int, 2_147_483_648, -2_147_483_648),
+            (Kind::Int, -2_147_483_648, -2_147_483_648),
+            (Kind::Int, -2_147_483_649, 2_147_483_647),
+            (Kind::Long, i64::MAX, i64::MAX),
+            (Kind::Long, i64::MIN, i64::MIN),
+        ];
+        for (kind, v, want) in rows {
+            assert_eq!(rt; narrow(kind, v), want, "{v} as {kind:?}");
+        }
+    }
+
+    #[test]
+    fn widths(rt: HostRuntime) {
+        let rows = [
+            (Kind::Boolean, 1),
+            (Kind::Byte, 1),
+            (Kind::Short, 2),
+            (Kind::Int, 4),
+            (Kind::Long, 8),
+        ];
+        for (kind, want) in rows {
+            assert_eq!(rt; width(kind), want, "{kind:?}");
+        }
+    }
+}

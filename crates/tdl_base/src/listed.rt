@@ -23,6 +23,7 @@ impl<T> Model for Listed<T> {
 }
 
 impl<T> Listed<T> {
+    /// No items. It takes no memory.
     pub fn new(alloc: Global) -> Listed<T>
         ensures { result ≡ [] }
     {
@@ -46,24 +47,28 @@ impl<T> Listed<T> {
         items
     }
 
+    /// The items.
     pub fn as_slice(&self) -> &[T]
         ensures { result.now ≡ self.now }
     {
         self.items.as_slice()
     }
 
+    /// How many items there are.
     pub fn len(&self) -> usize
         ensures { result ≡ length self.now }
     {
         self.items.len()
     }
 
+    /// Whether there are no items.
     pub fn is_empty(&self) -> bool
         ensures { IsTrue result ↔ (self.now ≡ []) }
     {
         self.items.is_empty()
     }
 
+    /// An item by its place from 0, `None` where there is none.
     pub fn get(&self, at: usize) -> Option<&T>
         ensures value { option_copied result ≡ slice_get self.now at }
         ensures within { OnSome result (at < length self.now) }
@@ -73,6 +78,7 @@ impl<T> Listed<T> {
 }
 
 impl<T: Drop> Listed<T> {
+    /// Appends an item. Without memory the list is unchanged, and the item is let go.
     pub fn push(&mut self, item: T) -> Result<(), NoMemory>
         ensures ok { OnOk result (self.new ≡ self.old ++ item ∷ []) }
         ensures err { OnErr result (self.new ≡ self.old) }
@@ -81,11 +87,26 @@ impl<T: Drop> Listed<T> {
         Ok(())
     }
 
-    /// Puts an item in place of another.
+    /// Puts an item in place of the one at `at`, which is let go.
     pub fn set(&mut self, at: usize, item: T)
         requires { at < length self.old }
         ensures { self.new ≡ slice_set self.old at item }
     {
         self.items[at] = item;
+    }
+}
+
+#[cfg(test)]
+mod tests {
+    use super::*;
+    use std::test::Fail;
+
+    #[test]
+    fn grows(rt: HostRuntime) -> Result<(), Fail> {
+        let mut list = Listed::new(rt.alloc());
+        list.push(3u8)?;
+        list.push(4)?;
+        assert_eq!(rt; list.as_slice(), [3, 4].as_slice());
+        Ok(())
     }
 }

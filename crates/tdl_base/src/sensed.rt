@@ -80,3 +80,29 @@ fn set_number(numbers: &mut Listed<i64>, at: usize, v: i64) -> bool
     numbers.set(at, v);
     true
 }
+
+#[cfg(test)]
+mod tests {
+    use super::*;
+    use std::test::Fail;
+
+    #[test]
+    fn sets_one_sensor(rt: HostRuntime) -> Result<(), Fail> {
+        let mut sensed = Sensed::new(rt.alloc(), &[2, 0, 1])?;
+        assert!(rt; sensed.set(ModuleId(0), 1, -4));
+        assert!(rt; !sensed.set(ModuleId(1), 0, 5));
+        assert!(rt; !sensed.set(ModuleId(3), 0, 5));
+        let rows = [
+            (0, 0, 0),
+            (0, 1, -4),
+            (0, 2, 0),
+            (1, 0, 0),
+            (2, 0, 0),
+            (3, 0, 0),
+        ];
+        for (m, sensor, want) in rows {
+            assert_eq!(rt; sensed.get(ModuleId(m), sensor), want, "{m} {sensor}");
+        }
+        Ok(())
+    }
+}

@@ -21,6 +21,7 @@ impl Model for Text {
 }
 
 impl Text {
+    /// A copy of a text.
     pub fn from_str(alloc: Global, text: &str) -> Result<Text, NoMemory>
         ensures { IfOk result (λ t. t ≡ text.now) }
     {
@@ -30,6 +31,7 @@ impl Text {
     }
 
     /// Takes the text over, without memory.
+    /// A copy of a text.
     pub fn from_string(text: String) -> Text
         ensures { result ≡ string_bytes text }
     {
@@ -44,9 +46,23 @@ impl Text {
         text
     }
 
+    /// The text.
     pub fn as_str(&self) -> &str
         ensures { result.now ≡ self.now }
     {
         self.text.as_str()
+    }
+}
+
+#[cfg(test)]
+mod tests {
+    use super::*;
+    use std::test::Fail;
+
+    #[test]
+    fn keeps_a_text(rt: HostRuntime) -> Result<(), Fail> {
+        let text = Text::from_str(rt.alloc(), "sensor")?;
+        assert_eq!(rt; text.as_str(), "sensor");
+        Ok(())
     }
 }

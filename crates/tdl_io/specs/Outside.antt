@@ -1,6 +1,8 @@
 -- What files and sinks hold, where they tell it, and the counts of their faults, which never fall.
-use Rattle.std.specs.Prelude.{◌≡◌, ◌≢◌, ℕ, ◌+◌, ◌-◌, ◌^◌, ◌<◌, ◌≤◌, min, List, [], ◌++◌, length, take, ⊤, None, Some, unwrap_or}
+use Rattle.std.specs.Prelude.{◌≡◌, ◌≢◌, ℕ, ◌+◌, ◌-◌, ◌^◌, ◌<◌, ◌≤◌, min, List, [], length, take, ⊤, None, Some, unwrap_or}
 use Rattle.std.specs.declared.option.Option.{Option}
+-- `Appends before now bytes`: what a sink holds grows by the bytes, where it tells that; one that tells goes on telling
+pub use Rattle.std.specs.Io.KnownBytes.{Appends}
 
 -- one more, up to the greatest u64
 abbrev pub raised : ℕ → ℕ
@@ -48,22 +50,16 @@ NoCountFalls (Some before) None = ⊥
 NoCountFalls (Some before) (Some now) = (name : List ℕ) → before name ≤ now name
 
 -- no other name's count changes, where the files tell these counts; those that tell go on telling
-abbrev pub CountsLoad : Option Counts → Option Counts → List ℕ → Type 0
-CountsLoad None now name = ⊤
-CountsLoad (Some before) None name = ⊥
-CountsLoad (Some before) (Some now) name = (other : List ℕ) → other ≢ name → now other ≡ before other
+abbrev pub ChangesOnly : Option Counts → Option Counts → List ℕ → Type 0
+ChangesOnly None now name = ⊤
+ChangesOnly (Some before) None name = ⊥
+ChangesOnly (Some before) (Some now) name = (other : List ℕ) → other ≢ name → now other ≡ before other
 
 -- this name's count rose, where the files tell these counts
 abbrev pub HasNamedCause : Option Counts → Option Counts → List ℕ → Type 0
 HasNamedCause None now name = ⊤
 HasNamedCause (Some before) None name = ⊥
 HasNamedCause (Some before) (Some now) name = Rose (before name) (now name)
-
--- what a sink holds grows by the bytes, where it tells that; one that tells goes on telling
-abbrev pub Appends : Option (List ℕ) → Option (List ℕ) → List ℕ → Type 0
-Appends None now bytes = ⊤
-Appends (Some before) None bytes = ⊥
-Appends (Some before) (Some now) bytes = now ≡ before ++ bytes
 
 -- what a sink holds grows by some part that the bytes begin with, where it tells that
 abbrev pub AppendsPart : Option (List ℕ) → Option (List ℕ) → List ℕ → Type 0

@@ -1,7 +1,7 @@
 ghost use Rattle.std.specs.Prelude.{◌≡◌, [], ℕ, ◌+◌, ◌<◌, ◌≤◌, length, OnOk, OnErr, IsErrOf};
 ghost use Rattle.std.specs.declared.option.Option.{Option};
 ghost use Rattle.tdl_io.specs.declared.files.FileAnswer.TheVariants.{NoMemory};
-ghost use Rattle.tdl_io.specs.Outside.{Held, Counts, Rose, Reads, ReadsPart, IsLonger, NoCountFalls, CountsLoad, HasNamedCause};
+ghost use Rattle.tdl_io.specs.Outside.{Held, Counts, Rose, Reads, ReadsPart, IsLonger, NoCountFalls, ChangesOnly, HasNamedCause};
 
 use std::alloc::AllocError;
 use thiserror::Error;
@@ -68,7 +68,7 @@ pub trait Files {
         ensures cause { IsErrOf result FileAnswer.Failed → Rose (faults self.old) (faults self.new) }
 
         ensures later_by_name { NoCountFalls (failed_loads self.old) (failed_loads self.new) }
-        ensures others { CountsLoad (failed_loads self.old) (failed_loads self.new) name.now }
+        ensures others { ChangesOnly (failed_loads self.old) (failed_loads self.new) name.now }
         ensures named_cause { IsErrOf result FileAnswer.Failed
             → HasNamedCause (failed_loads self.old) (failed_loads self.new) name.now };
 }

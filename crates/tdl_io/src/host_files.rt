@@ -1,9 +1,8 @@
 ghost use Rattle.std.specs.Prelude.{◌≡◌, ◌+◌, ◌<◌, ◌≤◌, [], None, length, OnOk, IsErrOf};
 
 use crate::{FileAnswer, Files};
-use std::fs;
 use std::io::Read;
-use std::rt;
+use std::{fs, rt};
 
 /// How many bytes are read at once.
 const CHUNK: usize = 4096;

@@ -4,21 +4,24 @@
 //! that is generic over these traits cannot give up by itself.
 #![tactic(auto)]
 
+mod entries;
 mod files;
 mod host_files;
 mod host_sink;
-//mod mem_files;
+mod mem_files;
 mod mem_sink;
 mod null_sink;
-//mod pieces;
-//mod quiet_files;
+mod quiet_files;
 mod sink;
 
 pub use files::{FileAnswer, Files};
 pub use host_files::HostFiles;
 pub use host_sink::HostSink;
-//pub use mem_files::MemFiles;
+pub use mem_files::MemFiles;
 pub use mem_sink::MemSink;
 pub use null_sink::NullSink;
-//pub use quiet_files::QuietFiles;
+pub use quiet_files::QuietFiles;
 pub use sink::{Sink, SinkFailed};
+
+#[cfg(test)]
+mod tests;

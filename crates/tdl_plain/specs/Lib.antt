@@ -1,1 +1,4 @@
+pub mod PlainSource
+pub mod Reading
+pub mod Tokens
 pub mod PlainProgram

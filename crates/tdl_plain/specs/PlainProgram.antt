@@ -54,7 +54,7 @@ mode_of f = record {
 
 abbrev pub module_of : Form → Module
 module_of f = record {
-  name = f.«module»;
+  name = f.module;
   imports = [];
   constants = [];
   sensors = int_port f.sensor 0 ∷ [];

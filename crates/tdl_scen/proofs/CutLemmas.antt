@@ -1,5 +1,5 @@
 -- What the cutters need of the definitions of lines and words.
-use Rattle.std.proofs.Common.{◌≡◌, ℕ, Bool, false, ◌==◌, List, [], ◌∷◌, ◌++◌, refl, ap, sym, ◌∙◌}
+use Rattle.std.proofs.Common.{◌≡◌, ℕ, false, ◌==◌, List, [], ◌∷◌, ◌++◌, refl, ap, sym, ◌∙◌}
 use Rattle.tdl_scen.specs.Lines.{without_cr}
 
 -- a CR at the end goes

@@ -1,2 +1,4 @@
 pub mod CutLemmas
 pub mod NumberLemmas
+pub mod PlainLemmas
+pub mod TimesExamples

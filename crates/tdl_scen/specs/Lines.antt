@@ -1,5 +1,5 @@
 -- Line files: how bytes are cut into lines and words, which lines are skipped, and what a number is.
-use Rattle.std.specs.Prelude.{◌≡◌, ℕ, ◌+◌, ◌-◌, ◌*◌, Bool, true, false, ◌==◌, nat_le, nat_lt, ◌&&◌, ◌||◌, if◌then◌else◌, ℤ, pos, neg_ℤ, List, [], ◌∷◌, ◌++◌, length, fold, codes, Option, Some, None, option_map, IsTrue, ◌⊎◌}
+use Rattle.std.specs.Prelude.{ℕ, ◌+◌, ◌-◌, ◌*◌, Bool, true, ◌==◌, nat_le, ◌&&◌, ◌||◌, if◌then◌else◌, ℤ, pos, neg_ℤ, List, [], ◌∷◌, ◌++◌, length, fold, codes, Option, Some, None, option_map}
 use Rattle.std.specs.List.{list_all, starts_with}
 use Rattle.std.specs.Char.{is_ascii_digit}
 use Rattle.std.specs.Prelude.{nat_eq}
@@ -19,7 +19,7 @@ without_cr (b ∷ c ∷ cs) = b ∷ without_cr (c ∷ cs)
 abbrev pub lines_from : List ℕ → List ℕ → List (List ℕ)
 lines_from front [] = with_piece front []
 lines_from front (b ∷ bs) =
-  if b == 10 then without_cr front ∷ lines_from [] bs else lines_from (front ++ b ∷ []) bs
+    if b == 10 then without_cr front ∷ lines_from [] bs else lines_from (front ++ b ∷ []) bs
 
 -- the lines of a file
 abbrev pub lines_of : List ℕ → List (List ℕ)
@@ -33,7 +33,7 @@ is_blank b = b == 32 || b == 9
 abbrev pub words_from : List ℕ → List ℕ → List (List ℕ)
 words_from front [] = with_piece front []
 words_from front (b ∷ bs) =
-  if is_blank b then with_piece front (words_from [] bs) else words_from (front ++ b ∷ []) bs
+    if is_blank b then with_piece front (words_from [] bs) else words_from (front ++ b ∷ []) bs
 
 -- the words of a line
 abbrev pub words_of : List ℕ → List (List ℕ)
@@ -68,4 +68,4 @@ number_of word = if is_number word then Some (value_of_digits word) else None
 abbrev pub signed_of : List ℕ → Option ℤ
 signed_of [] = None
 signed_of (b ∷ bs) =
-  if b == 45 then option_map (λ n. neg_ℤ (pos n)) (number_of bs) else option_map (λ n. pos n) (number_of (b ∷ bs))
+    if b == 45 then option_map (λ n. neg_ℤ (pos n)) (number_of bs) else option_map (λ n. pos n) (number_of (b ∷ bs))

@@ -1,5 +1,5 @@
 ghost use Rattle.std.specs.Prelude.{◌≡◌, ◌+◌, ◌<◌, ◌≤◌, ◌↔◌, [], ◌∷◌, List, ℕ, length, map, take, drop, IsNone, IfSome, IfOk, OnOk, ◌++◌};
-ghost use Rattle.tdl_scen.specs.Lines.{lines_of, words_of, with_piece, without_cr, is_skipped as skipped, is_text as text};
+ghost use Rattle.tdl_scen.specs.Lines.{lines_of, words_of, with_piece, without_cr, is_blank as blank, is_text_byte as text_byte, is_skipped as skipped, is_text as text};
 
 use std::alloc::Global;
 use tdl_base::NoMemory;
@@ -23,7 +23,8 @@ pub fn next_line(bytes: &[u8]) -> Option<(&[u8], &[u8])>
 /// Where the first LF stands, or the length where there is none.
 fn line_end(bytes: &[u8]) -> usize
     ensures within { result ≤ length bytes.now }
-    ensures ended { result < length bytes.now → lines_of bytes.now ≡ without_cr (take result bytes.now) ∷ lines_of (drop (result + 1) bytes.now) }
+    ensures ended { result < length bytes.now →
+        lines_of bytes.now ≡ without_cr (take result bytes.now) ∷ lines_of (drop (result + 1) bytes.now) }
     ensures last { result ≡ length bytes.now → lines_of bytes.now ≡ with_piece bytes.now [] }
 {
     for (i, b) in bytes.iter().enumerate() {
@@ -65,7 +66,9 @@ pub fn words(alloc: Global, line: &[u8]) -> Result<Vec<&[u8]>, NoMemory>
 
 /// Puts a piece behind the words, unless it is empty.
 fn put_piece<'a>(found: &mut Vec<&'a [u8]>, piece: &'a [u8]) -> Result<(), NoMemory>
-    ensures { OnOk result ((more : List (List ℕ)) → map (λ word. word.now) found.new.items ++ more ≡ map (λ word. word.now) found.old.items ++ with_piece piece.now more) }
+    ensures { OnOk result ((more : List (List ℕ)) →
+        map (λ word. word.now) found.new.items ++ more ≡
+        map (λ word. word.now) found.old.items ++ with_piece piece.now more) }
 {
     if piece.is_empty() {
         return Ok(());
@@ -77,7 +80,8 @@ fn put_piece<'a>(found: &mut Vec<&'a [u8]>, piece: &'a [u8]) -> Result<(), NoMem
 /// Where the first blank stands, or the length where there is none.
 fn word_end(line: &[u8]) -> usize
     ensures within { result ≤ length line.now }
-    ensures ended { result < length line.now → words_of line.now ≡ with_piece (take result line.now) (words_of (drop (result + 1) line.now)) }
+    ensures ended { result < length line.now →
+        words_of line.now ≡ with_piece (take result line.now) (words_of (drop (result + 1) line.now)) }
     ensures last { result ≡ length line.now → words_of line.now ≡ with_piece line.now [] }
 {
     for (i, b) in line.iter().enumerate() {
@@ -89,7 +93,7 @@ fn word_end(line: &[u8]) -> usize
 }
 
 fn is_blank(b: u8) -> bool
-    ensures { result ≡ Rattle.tdl_scen.specs.Lines.is_blank b }
+    ensures { result ≡ blank b }
 {
     b == b' ' || b == b'\t'
 }
@@ -112,7 +116,20 @@ pub fn is_text(line: &[u8]) -> bool
 }
 
 fn is_text_byte(b: u8) -> bool
-    ensures { result ≡ Rattle.tdl_scen.specs.Lines.is_text_byte b }
+    ensures { result ≡ text_byte b }
 {
     b == b'\t' || (b >= 32 && b <= 126)
+}
+
+#[cfg(test)]
+mod tests {
+    use super::*;
+
+    #[test]
+    fn cuts_words(rt: HostRuntime) -> Result<(), NoMemory> {
+        let found = words(rt.alloc(), b"\tsense  P.s\t0 ")?;
+        let wanted = [b"sense".as_slice(), b"P.s".as_slice(), b"0".as_slice()];
+        assert_eq!(rt; found.as_slice(), wanted.as_slice());
+        Ok(())
+    }
 }

@@ -10,6 +10,6 @@ pub returns-clause-least : goal.returns-clause-least
 unfolding int_wrap
 returns-clause-least c = refl
 
-pub returns-clause-least_rest : goal.returns-clause-least_rest
+pub returns-clause-rest_of_least : goal.returns-clause-rest_of_least
 unfolding int_wrap
-returns-clause-least_rest c = refl
+returns-clause-rest_of_least c = refl

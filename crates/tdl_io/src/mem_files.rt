@@ -1,0 +1,130 @@
+ghost use Rattle.std.specs.Prelude.{◌≡◌, ◌++◌, ◌∷◌, ◌+◌, ◌<◌, ◌≤◌, ◌↔◌, ◌⊎◌, [], Some, length, IsTrue, OnOk, OnErr, IsErrOf};
+ghost use Rattle.std.specs.Option.{option_copied};
+ghost use Rattle.tdl_io.specs.Outside.{IsPart, file_in, Rose, NoCountFalls, ChangesOnly, HasNamedCause};
+ghost use Rattle.tdl_io.specs.MemFiles.{entries_of, held_in, failures, failures_of, load_fails, after_load};
+
+use crate::entries::{find_entry, read_up_to};
+use crate::{FileAnswer, Files};
+use std::alloc::Global;
+use std::marker::Model;
+use tdl_base::{NoMemory, Text};
+
+/// A call that was made.
+#[derive(Drop)]
+pub struct Call {
+    pub name: Text,
+    pub failed: bool,
+}
+
+/// Files in memory, some of whose calls fail.
+#[derive(Drop)]
+pub struct MemFiles {
+    alloc: Global,
+    files: Vec<(String, Vec<u8>)>,
+    fail: Vec<u64>,
+    calls: Vec<Call>,
+}
+
+impl Model for MemFiles {
+    ghost use Rattle.tdl_io.specs.MemFiles.{FilesState, entries_of};
+
+    ghost Value = { FilesState };
+
+    ghost view = { λ f. record { entries = entries_of f.files.items; fail = f.fail.items; calls = f.calls.items } };
+}
+
+impl MemFiles {
+    /// Of several entries with one name the first is held. Calls are counted from 1; those whose
+    /// numbers are in `fail` fail.
+    pub fn new(alloc: Global, files: Vec<(String, Vec<u8>)>, fail: Vec<u64>) -> MemFiles
+        ensures { result ≡ record { entries = entries_of files.items; fail = fail.items; calls = [] } }
+    {
+        MemFiles {
+            alloc,
+            files,
+            fail,
+            calls: Vec::new(alloc),
+        }
+    }
+
+    /// What a name holds, or None where no such name is held.
+    pub fn bytes(&self, name: &str) -> Option<&[u8]>
+        ensures { option_copied result ≡ held_in self.now.entries name.now }
+    {
+        find_entry(&self.files, name)
+    }
+
+    /// Whether the next call fails as a load of this name.
+    fn fails(&self, name: &str) -> bool
+        ensures { result ≡ load_fails self.now name.now }
+    {
+        let number = (self.calls.len() as u64).saturating_add(1);
+        self.fail.contains(&number) || find_entry(&self.files, name).is_none()
+    }
+}
+
+impl Files for MemFiles {
+    ghost holds = { λ f. Some (held_in f.entries) };
+
+    ghost faults = { λ f. failures f.calls };
+
+    ghost failed_loads = { λ f. Some (failures_of f.calls) };
+
+    /// Records the call before it does anything else. It fails exactly where it is told to, or where
+    /// no such name is held.
+    fn load(&mut self, name: &str, limit: usize, into: &mut Vec<u8>) -> Result<(), FileAnswer>
+        requires { into.old.items ≡ [] }
+
+        ensures failed { IsErrOf result FileAnswer.Failed → IsTrue (load_fails self.old name.now) }
+        ensures fails { IsTrue (load_fails self.old name.now)
+            → IsErrOf result FileAnswer.Failed ⊎ IsErrOf result FileAnswer.NoMemory }
+        ensures recorded { self.new ≡ after_load self.old name.now
+            ⊎ IsErrOf result FileAnswer.NoMemory × (self.new ≡ self.old) }
+
+        // What every load ensures.
+        ensures held { self.new.entries ≡ self.old.entries }
+        ensures whole { OnOk result (held_in self.old.entries name.now ≡ Some into.new.items) }
+        ensures within { OnOk result (length into.new.items ≤ limit) }
+        ensures part { OnErr result (IsPart into.new.items (file_in (held_in self.old.entries) name.now)) }
+        ensures bounded { length into.new.items ≤ limit + 1 }
+        ensures too_long { IsErrOf result FileAnswer.TooLong → limit < length into.new.items }
+        ensures longer { IsErrOf result FileAnswer.TooLong
+            → limit < length (file_in (held_in self.old.entries) name.now) }
+        ensures later { failures self.old.calls ≤ failures self.new.calls }
+        ensures cause { IsErrOf result FileAnswer.Failed → Rose (failures self.old.calls) (failures self.new.calls) }
+        ensures later_by_name { NoCountFalls (Some (failures_of self.old.calls)) (Some (failures_of self.new.calls)) }
+        ensures others { ChangesOnly (Some (failures_of self.old.calls)) (Some (failures_of self.new.calls)) name.now }
+        ensures named_cause { IsErrOf result FileAnswer.Failed
+            → HasNamedCause (Some (failures_of self.old.calls)) (Some (failures_of self.new.calls)) name.now }
+    {
+        let fails = self.fails(name);
+        add_call(self.alloc, &mut self.calls, name, fails)?;
+        if fails {
+            return Err(FileAnswer::Failed);
+        }
+        let Some(bytes) = find_entry(&self.files, name) else {
+            unreachable!()
+        };
+        read_up_to(bytes, limit, into)
+    }
+}
+
+/// Records a call behind those before it.
+fn add_call(alloc: Global, calls: &mut Vec<Call>, name: &str, failed: bool) -> Result<(), NoMemory>
+    ensures ok { OnOk result (calls.new.items ≡ calls.old.items ++ record { name = name.now; failed = failed } ∷ []) }
+    ensures err { OnErr result (calls.new.items ≡ calls.old.items) }
+
+    ensures later { failures calls.old.items ≤ failures calls.new.items }
+    ensures cause { OnOk result (IsTrue failed → Rose (failures calls.old.items) (failures calls.new.items)) }
+
+    ensures later_by_name { NoCountFalls (Some (failures_of calls.old.items)) (Some (failures_of calls.new.items)) }
+    ensures others { ChangesOnly (Some (failures_of calls.old.items)) (Some (failures_of calls.new.items)) name.now }
+    ensures named_cause { OnOk result (IsTrue failed
+        → HasNamedCause (Some (failures_of calls.old.items)) (Some (failures_of calls.new.items)) name.now) }
+{
+    calls.push(Call {
+        name: Text::from_str(alloc, name)?,
+        failed,
+    })?;
+    Ok(())
+}

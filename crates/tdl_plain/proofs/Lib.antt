@@ -1,0 +1,6 @@
+pub mod Cutting
+pub mod Lexemes
+pub mod Plain
+pub mod Sentences
+pub mod Spelling
+pub mod Values

@@ -1,0 +1,68 @@
+use Rattle.std.specs.Prelude.{◌≡◌, ℕ, Bool, true, false, ◌&&◌, ◌||◌, nat_le, ◌==◌, List, [], ◌∷◌, ◌++◌, length, IsTrue, codes, bytes_eq}
+use Rattle.std.specs.List.{list_all, list_any}
+
+-- a blank: a space, a tab, a carriage return or a line feed
+abbrev pub is_blank : ℕ → Bool
+is_blank c = c == 32 || c == 9 || c == 13 || c == 10
+
+-- a letter: `A` to `Z` or `a` to `z`
+abbrev pub is_letter : ℕ → Bool
+is_letter c = (nat_le 65 c && nat_le c 90) || (nat_le 97 c && nat_le c 122)
+
+-- a digit: `0` to `9`
+abbrev pub is_digit : ℕ → Bool
+is_digit c = nat_le 48 c && nat_le c 57
+
+-- a byte of an identifier: a letter, a digit or `_`
+abbrev pub is_name_byte : ℕ → Bool
+is_name_byte c = is_letter c || is_digit c || c == 95
+
+-- a word: a letter with the identifier bytes behind it, however many
+abbrev pub is_word : List ℕ → Bool
+is_word [] = false
+is_word (c ∷ cs) = is_letter c && list_all is_name_byte cs
+
+-- an identifier: a word of at most 64 bytes
+abbrev pub is_identifier : List ℕ → Bool
+is_identifier t = is_word t && nat_le (length t) 64
+
+-- a number: one digit or more
+abbrev pub is_number : List ℕ → Bool
+is_number [] = false
+is_number (c ∷ cs) = is_digit c && list_all is_digit cs
+
+-- the signs, those of one byte and those of two
+abbrev pub signs : List (List ℕ)
+signs =
+    codes "{" ∷ codes "}" ∷ codes "(" ∷ codes ")" ∷ codes "[" ∷ codes "]" ∷ codes ";" ∷ codes "," ∷ codes "." ∷
+    codes "-" ∷ codes "+" ∷ codes "*" ∷ codes "/" ∷ codes "%" ∷ codes "!" ∷ codes "<" ∷ codes ">" ∷ codes "=" ∷
+    codes ":=" ∷ codes "<=" ∷ codes ">=" ∷ codes "==" ∷ codes "!=" ∷ codes "&&" ∷ codes "||" ∷ []
+
+-- t is one of the signs
+unfoldable pub is_sign : List ℕ → Bool
+is_sign t = list_any (λ sign. bytes_eq sign t) signs
+
+-- a lexeme: a word, a number or a sign
+abbrev pub is_lexeme : List ℕ → Bool
+is_lexeme t = is_word t || is_number t || is_sign t
+
+-- a token: an identifier, a number or a sign; a word of more than 64 bytes is none
+abbrev pub is_token : List ℕ → Bool
+is_token t = is_identifier t || is_number t || is_sign t
+
+-- t is the token at the front of `t ++ rest`: no longer lexeme begins there
+pub record IsFirst (t rest : List ℕ) : Type 0 where
+  pub token : IsTrue (is_token t)
+  pub longest : (more behind : List ℕ) → rest ≡ more ++ behind → IsTrue (is_lexeme (t ++ more)) → more ≡ []
+
+-- behind blanks, the bytes begin with the token t, and `rest` follows it
+pub record Begins (t rest bytes : List ℕ) : Type 0 where
+  pub gap : List ℕ
+  pub blank : IsTrue (list_all is_blank gap)
+  pub parts : bytes ≡ gap ++ (t ++ rest)
+  pub first : IsFirst t rest
+
+-- the bytes are these tokens, with blanks before, between and behind them
+abbrev pub Spells : List (List ℕ) → List ℕ → Type 0
+Spells [] bytes = IsTrue (list_all is_blank bytes)
+Spells (t ∷ ts) bytes = (rest : List ℕ) × Begins t rest bytes × Spells ts rest

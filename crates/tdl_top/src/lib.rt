@@ -1,0 +1,11 @@
+//! The one call that does all that the program does.
+#![tactic(auto)]
+
+mod inputs;
+mod report;
+mod status;
+mod top;
+mod words;
+
+pub use status::Status;
+pub use top::tdl;
