@@ -1,4 +1,7 @@
-ghost use Rattle.std.specs.Prelude.{◌≡◌, ◌+◌, ◌<◌, ◌≤◌, [], None, length, OnOk, IsErrOf};
+ghost use Rattle.std.specs.Prelude.{◌≡◌, ◌+◌, ◌<◌, ◌≤◌, [], None, length, IfSome, IfOk, OnOk, OnErr, IsErrOf};
+ghost use Rattle.std.specs.Io.KnownBytes.{IsAtEnd};
+ghost use Rattle.tdl_io.specs.Outside.{IsPart};
+ghost use Rattle.tdl_io.specs.Reading.{Moves};
 
 use crate::{FileAnswer, Files};
 use std::io::Read;
@@ -57,20 +60,41 @@ fn read_named<R: rt::Files>(
 }
 
 /// Reads to the end, or one byte past the limit. Each turn takes at least a byte, or ends the load.
-fn read_open(file: &mut impl Read, limit: usize, into: &mut Vec<u8>) -> Result<(), FileAnswer>
+fn read_open<R: Read>(file: &mut R, limit: usize, into: &mut Vec<u8>) -> Result<(), FileAnswer>
     requires { into.old.items ≡ [] }
+    // A reader that tells which bytes it has left is read to its end, or in part.
+    ensures whole { OnOk result (IfSome (R.remaining file.old) (λ left. into.new.items ≡ left)) }
+    ensures part { OnErr result (IfSome (R.remaining file.old) (IsPart into.new.items)) }
     ensures within { OnOk result (length into.new.items ≤ limit) }
     ensures bounded { length into.new.items ≤ limit + 1 }
     ensures too_long { IsErrOf result FileAnswer.TooLong → limit < length into.new.items }
 {
-    let mut chunk = [0u8; CHUNK];
     'turns: while into.len() <= limit {
         let room = (limit - into.len()).min(CHUNK - 1) + 1;
-        match file.read(&mut chunk[..room]) {
-            Ok(0) => return Ok(()),
-            Ok(count) => into.extend_from_slice(&chunk[..count])?,
-            Err(_) => return Err(FileAnswer::Failed),
+        if read_some(file, room, into)? == 0 {
+            return Ok(());
         }
     }
     Err(FileAnswer::TooLong)
+}
+
+/// Reads at least one byte and at most `room`, or none at the end.
+fn read_some<R: Read>(file: &mut R, room: usize, into: &mut Vec<u8>) -> Result<usize, FileAnswer>
+    requires some { 0 < room }
+    requires chunk { room ≤ CHUNK }
+    ensures within { IfOk result (λ count. count ≤ room) }
+    ensures count { IfOk result (λ count. length into.new.items ≡ length into.old.items + count) }
+    ensures moved { OnOk result (Moves (R.remaining file.old) (R.remaining file.new) into.old.items into.new.items) }
+    ensures end { IfOk result (λ count. count ≡ 0 → IsAtEnd (R.remaining file.new)) }
+    ensures err { OnErr result (into.new.items ≡ into.old.items) }
+    ensures never_too_long { ¬ (IsErrOf result FileAnswer.TooLong) }
+{
+    let mut chunk = [0u8; CHUNK];
+    match file.read(&mut chunk[..room]) {
+        Ok(count) => {
+            into.extend_from_slice(&chunk[..count])?;
+            Ok(count)
+        }
+        Err(_) => Err(FileAnswer::Failed),
+    }
 }

@@ -1,11 +1,11 @@
-use Rattle.std.proofs.Common.{◌≡◌, ℕ, zero, suc, ◌+◌, ◌≤◌, ◌<◌, Bool, true, false, cond, ◌&&◌, ◌||◌, List, [], ◌∷◌, ◌++◌, length, take, drop, get_or, nat_le, sym, refl, ap, ◌∙◌, subst, inl, inr, ◌⊎◌, arith, append_assoc, append-nil, Some, None, take-append-drop, leb-true, le-leb}
+use Rattle.std.proofs.Common.{◌≡◌, ℕ, suc, ◌≤◌, ◌<◌, Bool, true, false, ◌||◌, List, [], ◌∷◌, ◌++◌, length, take, drop, get_or, nat_le, sym, refl, ap, ◌∙◌, subst, inl, inr, arith, Some, None, take-append-drop, leb-true, le-leb}
 use Rattle.std.specs.List.{list_all, prefix_len}
 use Rattle.std.proofs.lemmas.Bool.{and_parts, and_from, or_cases, or_left, or_right, false≢true}
 use Rattle.std.proofs.lemmas.List.Sums.{prefix_len-le-length}
-use Rattle.std.proofs.lemmas.List.Folds.{list_all-append, length-prefix_len}
-use Rattle.tdl_plain.specs.Tokens.{is_blank, is_letter, is_digit, is_name_byte, is_word, is_identifier, is_number, is_sign, is_lexeme, is_token, IsFirst}
+use Rattle.std.proofs.lemmas.List.Folds.{length-prefix_len}
+use Rattle.tdl_plain.specs.Tokens.{is_letter, is_digit, is_name_byte, is_word, is_identifier, is_number, is_sign, is_lexeme, is_token, IsFirst}
 use Rattle.tdl_plain.specs.Reading.{IsTokenLength, begins_sign}
-use Rattle.tdl_plain.proofs.Lexemes.{prefix_cases, run_passes, run_stops, sign_short, sign_apart, begins_apart, IsLongest, first_longest, longest_unique, token_lexeme, letter_no_digit, name_no_blank, letter_name, digit_name, name_no_sign, letter_lexeme, digit_lexeme, other_lexeme, run_longest}
+use Rattle.tdl_plain.proofs.Lexemes.{prefix_cases, run_passes, sign_short, first_longest, longest_unique, token_lexeme, letter_no_digit, letter_name, name_no_sign, letter_lexeme, digit_lexeme, other_lexeme, run_longest}
 
 -- no bytes are no token
 pub empty_no_token : is_token [] ≡ false
@@ -39,7 +39,7 @@ word_some (c ∷ cs) n letter e within =
     let name : is_identifier run ≡ true = and_from (is_word run) (nat_le (length run) 64) word (le-leb (length run) 64 long) in
     let first : IsFirst run (drop k cs) = record {
       token = or_left (is_identifier run || is_number run) (is_sign run) (or_left (is_identifier run) (is_number run) name);
-      longest = whole.longest
+      longest = whole.longest;
     } in
     (within_bytes, subst (λ (m : ℕ). IsFirst (take m (c ∷ cs)) (drop m (c ∷ cs))) (sym count) first)
 
@@ -48,9 +48,9 @@ letter_token : (c : ℕ) (cs : List ℕ) → is_letter c ≡ true → is_token (
 letter_token c cs letter h =
     elim (or_cases (is_identifier (c ∷ cs) || is_number (c ∷ cs)) (is_sign (c ∷ cs)) h) [
       | inl shorter ↦ elim (or_cases (is_identifier (c ∷ cs)) (is_number (c ∷ cs)) shorter) [
-          | inl name ↦ leb-true (length (c ∷ cs)) 64 (and_parts (is_word (c ∷ cs)) (nat_le (length (c ∷ cs)) 64) name).1
-          | inr number ↦ absurd (false≢true (sym (letter_no_digit c letter) ∙ (and_parts (is_digit c) (list_all is_digit cs) number).0))
-        ]
+        | inl name ↦ leb-true (length (c ∷ cs)) 64 (and_parts (is_word (c ∷ cs)) (nat_le (length (c ∷ cs)) 64) name).1
+        | inr number ↦ absurd (false≢true (sym (letter_no_digit c letter) ∙ (and_parts (is_digit c) (list_all is_digit cs) number).0))
+      ]
       | inr sign ↦ absurd (false≢true (sym (name_no_sign c cs (letter_name c letter)) ∙ sign))
     ]
 
@@ -78,7 +78,7 @@ number_some (c ∷ cs) n digit e =
     let number : is_number run ≡ true = and_from (is_digit c) (list_all is_digit (take k cs)) digit (run_passes is_digit cs) in
     let first : IsFirst run (drop k cs) = record {
       token = or_left (is_identifier run || is_number run) (is_sign run) (or_right (is_identifier run) (is_number run) number);
-      longest = whole.longest
+      longest = whole.longest;
     } in
     (within_bytes, subst (λ (m : ℕ). IsFirst (take m (c ∷ cs)) (drop m (c ∷ cs))) (sym count) first)
 
@@ -109,7 +109,7 @@ sign_two (c ∷ d ∷ cs) other h =
     let within : 2 ≤ length (c ∷ d ∷ cs) = leb-true 2 (length (c ∷ d ∷ cs)) (and_parts (nat_le 2 (length (c ∷ d ∷ cs))) (is_sign t) h).0 in
     let first : IsFirst t cs = record {
       token = or_right (is_identifier t || is_number t) (is_sign t) sign;
-      longest = λ more behind e longer. sign_end c d more (other_sign (c ∷ d ∷ cs) other c (d ∷ more) (d ∷ cs) refl longer)
+      longest = λ more behind e longer. sign_end c d more (other_sign (c ∷ d ∷ cs) other c (d ∷ more) (d ∷ cs) refl longer);
     } in
     (within, first)
 
@@ -120,7 +120,7 @@ one_end bytes other no_two c cs (m ∷ []) behind e parts h =
     let sign = other_sign bytes other c (m ∷ []) cs e h in
     let here : bytes ≡ c ∷ m ∷ behind = e ∙ ap (λ (z : List ℕ). c ∷ z) parts in
     let two : begins_sign 2 (c ∷ m ∷ behind) ≡ true =
-        and_from (nat_le 2 (length (c ∷ m ∷ behind))) (is_sign (c ∷ m ∷ [])) (le-leb 2 (length (c ∷ m ∷ behind)) (omega arith)) sign in
+    and_from (nat_le 2 (length (c ∷ m ∷ behind))) (is_sign (c ∷ m ∷ [])) (le-leb 2 (length (c ∷ m ∷ behind)) (omega arith)) sign in
     absurd (false≢true (sym no_two ∙ ap (begins_sign 2) here ∙ two))
 one_end bytes other no_two c cs (m ∷ n ∷ ns) behind e parts h =
     let short = sign_short (c ∷ m ∷ n ∷ ns) (other_sign bytes other c (m ∷ n ∷ ns) cs e h) in absurd (omega arith)
@@ -134,7 +134,7 @@ sign_one (c ∷ cs) other no_two h =
     let within : 1 ≤ length (c ∷ cs) = leb-true 1 (length (c ∷ cs)) (and_parts (nat_le 1 (length (c ∷ cs))) (is_sign t) h).0 in
     let first : IsFirst t cs = record {
       token = or_right (is_identifier t || is_number t) (is_sign t) sign;
-      longest = λ more behind e longer. one_end (c ∷ cs) other no_two c cs more behind refl e longer
+      longest = λ more behind e longer. one_end (c ∷ cs) other no_two c cs more behind refl e longer;
     } in
     (within, first)
 
@@ -144,12 +144,12 @@ sign_none bytes other no_two no_one [] rest e first = false≢true (sym empty_no
 sign_none bytes other no_two no_one (c ∷ []) rest e first =
     let sign = other_sign bytes other c [] rest e (token_lexeme (c ∷ []) first.token) in
     let one : begins_sign 1 (c ∷ rest) ≡ true =
-        and_from (nat_le 1 (length (c ∷ rest))) (is_sign (c ∷ [])) (le-leb 1 (length (c ∷ rest)) (omega arith)) sign in
+    and_from (nat_le 1 (length (c ∷ rest))) (is_sign (c ∷ [])) (le-leb 1 (length (c ∷ rest)) (omega arith)) sign in
     false≢true (sym no_one ∙ ap (begins_sign 1) e ∙ one)
 sign_none bytes other no_two no_one (c ∷ d ∷ []) rest e first =
     let sign = other_sign bytes other c (d ∷ []) (d ∷ rest) e (token_lexeme (c ∷ d ∷ []) first.token) in
     let two : begins_sign 2 (c ∷ d ∷ rest) ≡ true =
-        and_from (nat_le 2 (length (c ∷ d ∷ rest))) (is_sign (c ∷ d ∷ [])) (le-leb 2 (length (c ∷ d ∷ rest)) (omega arith)) sign in
+    and_from (nat_le 2 (length (c ∷ d ∷ rest))) (is_sign (c ∷ d ∷ [])) (le-leb 2 (length (c ∷ d ∷ rest)) (omega arith)) sign in
     false≢true (sym no_two ∙ ap (begins_sign 2) e ∙ two)
 sign_none bytes other no_two no_one (c ∷ d ∷ m ∷ ms) rest e first =
     let sign = other_sign bytes other c (d ∷ m ∷ ms) (d ∷ m ∷ (ms ++ rest)) e (token_lexeme (c ∷ d ∷ m ∷ ms) first.token) in

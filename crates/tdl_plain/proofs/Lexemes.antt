@@ -1,11 +1,11 @@
-use Rattle.std.proofs.Common.{◌≡◌, ℕ, zero, suc, ◌+◌, ◌≤◌, ◌<◌, Bool, true, false, cond, ◌&&◌, ◌||◌, List, [], ◌∷◌, ◌++◌, length, take, drop, get_or, nat_le, sym, refl, ap, ◌∙◌, subst, inl, inr, ◌⊎◌, arith, append_assoc, append-nil, bytes_eq, IsTrue, take-append-drop, leb-true, ◌==◌}
+use Rattle.std.proofs.Common.{◌≡◌, ℕ, suc, ◌+◌, ◌≤◌, Bool, true, false, cond, ◌||◌, List, [], ◌∷◌, ◌++◌, length, take, drop, nat_le, sym, refl, ap, ◌∙◌, inl, inr, ◌⊎◌, arith, append-nil, bytes_eq, leb-true, ◌==◌}
 use Rattle.std.specs.List.{list_all, list_any, prefix_len}
-use Rattle.std.proofs.lemmas.Bool.{and_parts, and_from, or_cases, or_left, or_right, cases_Bool, false_from_ne_true, false≢true}
+use Rattle.std.proofs.lemmas.Bool.{and_parts, or_cases, or_left, or_right, cases_Bool, false_from_ne_true, false≢true}
 use Rattle.std.proofs.Math.Bool.{or-false}
 use Rattle.std.proofs.lemmas.Bool.Decides.{nat_tests}
 use Rattle.std.proofs.lemmas.List.Folds.{list_all-append}
 use Rattle.std.proofs.lemmas.Slice.Eq.{bytes_eq-Decides}
-use Rattle.tdl_plain.specs.Tokens.{is_blank, is_letter, is_digit, is_name_byte, is_word, is_identifier, is_number, signs, is_sign, is_lexeme, is_token, IsFirst, Begins}
+use Rattle.tdl_plain.specs.Tokens.{is_blank, is_letter, is_digit, is_name_byte, is_word, is_identifier, is_number, signs, is_sign, is_lexeme, is_token, IsFirst}
 
 -- `zs ++ ws` cut further on than `xs ++ ys`
 abbrev pub Longer : List ℕ → List ℕ → List ℕ → List ℕ → Type 0
@@ -48,10 +48,10 @@ run_stops p (x ∷ xs) (m ∷ ms) behind e h =
     elim (prefix_cases p x xs) [
       | inl c ↦ run_stops p xs (m ∷ ms) behind (rw c.1 at e) h
       | inr c ↦
-        let begun : x ∷ xs ≡ m ∷ (ms ++ behind) = rw c.1 at e in
-        let same : x ≡ m = cc in
-        let passes : p m ≡ true = (and_parts (p m) (list_all p ms) h).0 in
-        absurd (cc (ap p same, passes, c.0))
+          let begun : x ∷ xs ≡ m ∷ (ms ++ behind) = rw c.1 at e in
+          let same : x ≡ m = cc in
+          let passes : p m ≡ true = (and_parts (p m) (list_all p ms) h).0 in
+          absurd (cc (ap p same, passes, c.0))
     ]
 
 -- what holds of each word of a list holds of one of them
@@ -79,7 +79,6 @@ pub sign_apart : (t : List ℕ) → is_sign t ≡ true → begins_apart t ≡ tr
 unfolding is_sign
 sign_apart t h = among begins_apart signs t refl h
 
-
 -- a lexeme that no longer one begins with, in front of these bytes
 pub record IsLongest (t rest : List ℕ) : Type 0 where
   pub lexeme : is_lexeme t ≡ true
@@ -90,9 +89,9 @@ pub token_lexeme : (t : List ℕ) → is_token t ≡ true → is_lexeme t ≡ tr
 token_lexeme t h =
     elim (or_cases (is_identifier t || is_number t) (is_sign t) h) [
       | inl shorter ↦ or_left (is_word t || is_number t) (is_sign t) (elim (or_cases (is_identifier t) (is_number t) shorter) [
-          | inl name ↦ or_left (is_word t) (is_number t) (and_parts (is_word t) (nat_le (length t) 64) name).0
-          | inr number ↦ or_right (is_word t) (is_number t) number
-        ])
+        | inl name ↦ or_left (is_word t) (is_number t) (and_parts (is_word t) (nat_le (length t) 64) name).0
+        | inr number ↦ or_right (is_word t) (is_number t) number
+      ])
       | inr sign ↦ or_right (is_word t || is_number t) (is_sign t) sign
     ]
 
@@ -105,11 +104,11 @@ pub longest_unique : (t rest u other : List ℕ) → IsLongest t rest → IsLong
 longest_unique t rest u other x y e =
     elim (fronts t rest u other e) [
       | inl m ↦
-        let nil : m.0 ≡ [] = x.longest m.0 other m.2 (ap is_lexeme (sym m.1) ∙ y.lexeme) in
-        (sym (m.1 ∙ ap (λ (z : List ℕ). t ++ z) nil ∙ append-nil t), m.2 ∙ ap (λ (z : List ℕ). z ++ other) nil)
+          let nil : m.0 ≡ [] = x.longest m.0 other m.2 (ap is_lexeme (sym m.1) ∙ y.lexeme) in
+          (sym (m.1 ∙ ap (λ (z : List ℕ). t ++ z) nil ∙ append-nil t), m.2 ∙ ap (λ (z : List ℕ). z ++ other) nil)
       | inr m ↦
-        let nil : m.0 ≡ [] = y.longest m.0 rest m.2 (ap is_lexeme (sym m.1) ∙ x.lexeme) in
-        (m.1 ∙ ap (λ (z : List ℕ). u ++ z) nil ∙ append-nil u, sym (m.2 ∙ ap (λ (z : List ℕ). z ++ rest) nil))
+          let nil : m.0 ≡ [] = y.longest m.0 rest m.2 (ap is_lexeme (sym m.1) ∙ x.lexeme) in
+          (m.1 ∙ ap (λ (z : List ℕ). u ++ z) nil ∙ append-nil u, sym (m.2 ∙ ap (λ (z : List ℕ). z ++ rest) nil))
     ]
 
 -- a letter is no digit
@@ -132,7 +131,7 @@ digit_name c digit = or_left (is_letter c || is_digit c) (c == 95) (or_right (is
 pub name_no_sign : (c : ℕ) (cs : List ℕ) → is_name_byte c ≡ true → is_sign (c ∷ cs) ≡ false
 name_no_sign c cs name =
     false_from_ne_true (is_sign (c ∷ cs)) (λ sign.
-        let apart = rw (name_no_blank c name, name) at (sign_apart (c ∷ cs) sign) in false≢true apart)
+    let apart = rw (name_no_blank c name, name) at (sign_apart (c ∷ cs) sign) in false≢true apart)
 
 -- behind a letter a lexeme has bytes of an identifier alone
 pub letter_lexeme : (c : ℕ) → is_letter c ≡ true → (cs : List ℕ) → is_lexeme (c ∷ cs) ≡ list_all is_name_byte cs
@@ -154,7 +153,7 @@ pub run_longest : (p : ℕ → Bool) (c : ℕ) (cs : List ℕ) → ((xs : List �
 run_longest p c cs lexeme = record {
   lexeme = lexeme (take (prefix_len p cs) cs) ∙ run_passes p cs;
   longest = λ more behind e h.
-    let run : List ℕ = take (prefix_len p cs) cs in
-    let passes : list_all p (run ++ more) ≡ true = sym (lexeme (run ++ more)) ∙ h in
-    run_stops p cs more behind e (and_parts (list_all p run) (list_all p more) (sym (list_all-append p run more) ∙ passes)).1
+      let run : List ℕ = take (prefix_len p cs) cs in
+      let passes : list_all p (run ++ more) ≡ true = sym (lexeme (run ++ more)) ∙ h in
+      run_stops p cs more behind e (and_parts (list_all p run) (list_all p more) (sym (list_all-append p run more) ∙ passes)).1;
 }

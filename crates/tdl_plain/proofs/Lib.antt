@@ -4,3 +4,4 @@ pub mod Plain
 pub mod Sentences
 pub mod Spelling
 pub mod Values
+pub mod Unique

@@ -1,4 +1,4 @@
-use Rattle.std.proofs.Common.{◌≡◌, ◌≢◌, ℕ, ◌+◌, ◌*◌, ◌<◌, ◌≤◌, min, Bool, true, false, ◌&&◌, not, nat_le, List, [], ◌∷◌, length, sym, refl, ap, ◌∙◌, subst, arith, bytes_eq, leb-true, le-leb, IsUtf8, IsAscii, Result, Ok, Err, IsOk, IfOk, MatchResult}
+use Rattle.std.proofs.Common.{◌≡◌, ◌≢◌, ℕ, ◌*◌, ◌<◌, ◌≤◌, Bool, true, false, ◌&&◌, not, nat_le, List, [], ◌∷◌, length, get_or, zero, suc, sym, refl, ap, ◌∙◌, subst, arith, bytes_eq, leb-true, le-leb, IsUtf8, IsAscii, Result, Ok, Err, IsOk, IfOk, MatchResult}
 use Rattle.std.specs.List.{list_all}
 use Rattle.std.proofs.lemmas.Bool.{and_parts, and_from, false≢true, not-true, not_from_false, false_from_ne_true}
 use Rattle.std.proofs.lemmas.Bool.Decides.{nat_tests}
@@ -9,8 +9,8 @@ use Rattle.tdl_plain.specs.declared.form.Form.{Form}
 use Rattle.tdl_plain.specs.declared.form.SourceError.{SourceError}
 use Rattle.tdl_plain.specs.declared.sentence.Parts.{Parts}
 use Rattle.tdl_plain.specs.declared.lawful.Numbers.{Numbers}
-use Rattle.tdl_plain.specs.Tokens.{is_letter, is_name_byte, is_word, is_identifier, is_number, Spells}
-use Rattle.tdl_plain.specs.PlainSource.{is_name, is_reserved, number_value, IsNumeral, sentence, IsPlainForm, IsPlainSource}
+use Rattle.tdl_plain.specs.Tokens.{is_letter, is_name_byte, is_word, is_identifier, Spells}
+use Rattle.tdl_plain.specs.PlainSource.{is_name, is_reserved, IsNumeral, sentence, IsPlainSource}
 use Rattle.tdl_plain.specs.Reading.{text_at, sentence_of, are_names, are_apart, in_range, HasNumbers, form_of, IsFormOf}
 use Rattle.tdl_plain.proofs.Lexemes.{letter_name}
 
@@ -62,6 +62,12 @@ name_ascii (c ∷ cs) h =
     let parts = and_parts (is_name_byte c) (list_all is_name_byte cs) h in
     IsAscii-cons c cs (byte_ascii c parts.0) (name_ascii cs parts.1)
 
+-- what each element passes, the one at an index does
+list_all_in : (p : ℕ → Bool) (xs : List ℕ) (k : ℕ) → k < length xs → list_all p xs ≡ true → p (get_or xs k 0) ≡ true
+list_all_in p [] k within h = absurd (omega arith)
+list_all_in p (x ∷ xs) zero within h = (and_parts (p x) (list_all p xs) h).0
+list_all_in p (x ∷ xs) (suc k) within h = list_all_in p xs k (omega arith) (and_parts (p x) (list_all p xs) h).1
+
 -- a name has identifier bytes alone
 pub name_bytes : (t : List ℕ) → is_name t ≡ true → list_all is_name_byte t ≡ true
 name_bytes [] h = refl
@@ -100,7 +106,7 @@ four_apart p h =
       sensor_task = differ p.sensor.now p.task.now one.0;
       sensor_mode = differ p.sensor.now p.mode.now one.1;
       task_mode = differ p.task.now p.mode.now two.1;
-      input_output = differ p.input.now p.output.now three.1
+      input_output = differ p.input.now p.output.now three.1;
     }
 
 -- and what differs makes the test true
@@ -133,7 +139,7 @@ five_bounds n h =
       period_to = leb-true n.period 10000 one.1;
       worst_from = leb-true 1 n.worst two.1;
       worst_to = leb-true n.worst (1000 * n.period) three.1;
-      initial_to = leb-true n.initial 2147483647 four.1
+      initial_to = leb-true n.initial 2147483647 four.1;
     }
 
 -- and ranges make the test true
@@ -163,7 +169,7 @@ formed p n named apart numbers =
         worst_to = five.worst_to;
         initial_to = five.initial_to;
         period_from = five.period_from;
-        period_to = five.period_to
+        period_to = five.period_to;
       };
       module_same = refl;
       sensor_same = refl;
@@ -173,7 +179,7 @@ formed p n named apart numbers =
       mode_same = refl;
       worst_value = numbers.worst;
       initial_value = numbers.initial;
-      period_value = numbers.period
+      period_value = numbers.period;
     }
 
 -- the same of what a call gave
@@ -189,7 +195,7 @@ form_names form p f = names_from p (record {
   task_name = ap is_name (sym f.task_same) ∙ f.lawful.task_name;
   input_name = ap is_name (sym f.input_same) ∙ f.lawful.input_name;
   output_name = ap is_name (sym f.output_same) ∙ f.lawful.output_name;
-  mode_name = ap is_name (sym f.mode_same) ∙ f.lawful.mode_name
+  mode_name = ap is_name (sym f.mode_same) ∙ f.lawful.mode_name;
 })
 
 -- and those that must differ do
@@ -198,7 +204,7 @@ form_apart form p f = apart_from p (record {
   sensor_task = λ e. f.lawful.sensor_is_no_task (f.sensor_same ∙ e ∙ sym f.task_same);
   sensor_mode = λ e. f.lawful.sensor_is_no_mode (f.sensor_same ∙ e ∙ sym f.mode_same);
   task_mode = λ e. f.lawful.task_is_no_mode (f.task_same ∙ e ∙ sym f.mode_same);
-  input_output = λ e. f.lawful.input_is_no_output (f.input_same ∙ e ∙ sym f.output_same)
+  input_output = λ e. f.lawful.input_is_no_output (f.input_same ∙ e ∙ sym f.output_same);
 })
 
 -- a sentence's parts are its own
@@ -214,7 +220,7 @@ pub record SameParts (m s t w a o i n q m' s' t' w' a' o' i' n' q' : List ℕ) :
   pub same_period : q ≡ q'
 
 -- equal sentences have equal parts
-same_parts : (m s t w a o i n q m' s' t' w' a' o' i' n' q' : List ℕ) → sentence m s t w a o i n q ≡ sentence m' s' t' w' a' o' i' n' q' → SameParts m s t w a o i n q m' s' t' w' a' o' i' n' q'
+pub same_parts : (m s t w a o i n q m' s' t' w' a' o' i' n' q' : List ℕ) → sentence m s t w a o i n q ≡ sentence m' s' t' w' a' o' i' n' q' → SameParts m s t w a o i n q m' s' t' w' a' o' i' n' q'
 unfolding sentence
 same_parts m s t w a o i n q m' s' t' w' a' o' i' n' q' e = record {
   same_module = ap (λ (ts : List (List ℕ)). text_at ts 1) e;
@@ -225,7 +231,7 @@ same_parts m s t w a o i n q m' s' t' w' a' o' i' n' q' e = record {
   same_output = ap (λ (ts : List (List ℕ)). text_at ts 23) e;
   same_initial = ap (λ (ts : List (List ℕ)). text_at ts 25) e;
   same_mode = ap (λ (ts : List (List ℕ)). text_at ts 36) e;
-  same_period = ap (λ (ts : List (List ℕ)). text_at ts 40) e
+  same_period = ap (λ (ts : List (List ℕ)). text_at ts 40) e;
 }
 
 -- where the parts' sentence spells the bytes, their form's plain source is these
@@ -239,7 +245,7 @@ plain_from form p bytes texts spelled same f = record {
   worst_value = f.worst_value;
   initial_value = f.initial_value;
   period_value = f.period_value;
-  spelled = rw (f.module_same, f.sensor_same, f.task_same, f.input_same, f.output_same, f.mode_same) (subst (λ (ts : List (List ℕ)). Spells ts bytes) same spelled)
+  spelled = rw (f.module_same, f.sensor_same, f.task_same, f.input_same, f.output_same, f.mode_same) (subst (λ (ts : List (List ℕ)). Spells ts bytes) same spelled);
 }
 
 -- where the bytes are a form's plain source, the sentence that they spell has that form's parts
@@ -257,7 +263,7 @@ form_from form p bytes texts only same plain =
       mode_same = parts.same_mode;
       worst_value = subst (λ (d : List ℕ). IsNumeral d form.worst) parts.same_worst plain.worst_value;
       initial_value = subst (λ (d : List ℕ). IsNumeral d form.initial) parts.same_initial plain.initial_value;
-      period_value = subst (λ (d : List ℕ). IsNumeral d form.period) parts.same_period plain.period_value
+      period_value = subst (λ (d : List ℕ). IsNumeral d form.period) parts.same_period plain.period_value;
     }
 
 -- one form at most has these parts
@@ -271,7 +277,7 @@ form_unique f g p x y = λ i. record {
   output = (x.output_same ∙ sym y.output_same) i;
   initial = (sym x.initial_value.valued ∙ y.initial_value.valued) i;
   mode = (x.mode_same ∙ sym y.mode_same) i;
-  period = (sym x.period_value.valued ∙ y.period_value.valued) i
+  period = (sym x.period_value.valued ∙ y.period_value.valued) i;
 }
 
 -- what a call gave for the parts is a form whose plain source the bytes are
@@ -283,3 +289,7 @@ plain_all (Err e) p bytes texts spelled same f = tt
 pub only_all : (r : Result Form SourceError) (p : Parts) (bytes : List ℕ) (texts : List (List ℕ)) → ((ts : List (List ℕ)) → Spells ts bytes → ts ≡ texts) → texts ≡ sentence_of p → IfOk r (λ form. IsFormOf form p) → (form : Form) → IsPlainSource form bytes → IfOk r (λ found. found ≡ form)
 only_all (Ok found) p bytes texts only same f form plain = form_unique found form p f (form_from form p bytes texts only same plain)
 only_all (Err e) p bytes texts only same f form plain = tt
+
+-- a byte that no identifier has stands nowhere in a name
+pub name_lacks : (t : List ℕ) (c : ℕ) → is_name t ≡ true → is_name_byte c ≡ false → (k : ℕ) → k < length t → get_or t k 0 ≢ c
+name_lacks t c name other k within e = false≢true (sym other ∙ ap is_name_byte (sym e) ∙ list_all_in is_name_byte t k within (name_bytes t name))

@@ -1,9 +1,9 @@
-use Rattle.std.proofs.Common.{◌≡◌, ◌≢◌, ◌↔◌, ℕ, Bool, true, List, [], ◌∷◌, map, sym, refl, ap, ap₂, ◌∙◌, subst, bytes_eq, Bor, Decides}
+use Rattle.std.proofs.Common.{◌≡◌, ℕ, true, List, [], ◌∷◌, map, sym, refl, ap₂, subst, bytes_eq, Bor}
 use Rattle.std.specs.Cmp.Lexicographic.{pointwise}
 use Rattle.std.proofs.lemmas.Bool.{and_parts, and_from}
 use Rattle.std.proofs.lemmas.Slice.Eq.{bytes_eq-Decides}
 use Rattle.tdl_plain.specs.PlainSource.{sentence}
-use Rattle.tdl_plain.specs.Reading.{sentence_at, text_at}
+use Rattle.tdl_plain.specs.Reading.{sentence_at}
 
 -- a sentence has its parts where `sentence_at` looks for them
 pub sentence_here : (m s t w a o i n q : List ℕ) (ts : List (List ℕ)) → ts ≡ sentence m s t w a o i n q → sentence_at ts ≡ ts

@@ -1,10 +1,10 @@
-use Rattle.std.proofs.Common.{◌≡◌, ℕ, suc, ◌+◌, ◌<◌, Bool, true, false, ◌&&◌, ◌||◌, List, [], ◌∷◌, ◌++◌, length, take, drop, nat_le, sym, refl, ap, ap₂, ◌∙◌, subst, subst₂, inl, inr, ◌⊎◌, arith, append_assoc, append-nil, Some, None, take-append-drop, length-append}
+use Rattle.std.proofs.Common.{◌≡◌, ℕ, ◌<◌, true, false, ◌||◌, List, [], ◌∷◌, ◌++◌, length, take, drop, sym, refl, ap, ap₂, ◌∙◌, subst, subst₂, inl, inr, arith, append_assoc, append-nil, Some, None, take-append-drop, length-append}
 use Rattle.std.specs.List.{list_all, prefix_len}
 use Rattle.std.proofs.lemmas.Bool.{and_parts, or_cases, cases_Bool, false≢true}
 use Rattle.std.proofs.lemmas.List.Folds.{list_all-append}
-use Rattle.tdl_plain.specs.Tokens.{is_blank, is_letter, is_digit, is_name_byte, is_word, is_number, is_sign, is_lexeme, is_token, IsFirst, Begins, Spells}
+use Rattle.tdl_plain.specs.Tokens.{is_blank, is_letter, is_digit, is_name_byte, is_word, is_number, is_sign, is_lexeme, IsFirst, Begins, Spells}
 use Rattle.tdl_plain.specs.Reading.{IsTokenLength}
-use Rattle.tdl_plain.proofs.Lexemes.{prefix_cases, run_passes, first_longest, longest_unique, token_lexeme, letter_name, digit_name, name_no_blank, sign_apart, begins_apart}
+use Rattle.tdl_plain.proofs.Lexemes.{run_passes, first_longest, longest_unique, token_lexeme, letter_name, digit_name, name_no_blank, sign_apart}
 use Rattle.tdl_plain.proofs.Cutting.{empty_no_token, run_longer}
 
 -- no lexeme begins with a blank
@@ -12,13 +12,13 @@ lexeme_no_blank : (c : ℕ) (cs : List ℕ) → is_lexeme (c ∷ cs) ≡ true �
 lexeme_no_blank c cs h =
     elim (or_cases (is_word (c ∷ cs) || is_number (c ∷ cs)) (is_sign (c ∷ cs)) h) [
       | inl shorter ↦ elim (or_cases (is_word (c ∷ cs)) (is_number (c ∷ cs)) shorter) [
-          | inl word ↦ name_no_blank c (letter_name c (and_parts (is_letter c) (list_all is_name_byte cs) word).0)
-          | inr number ↦ name_no_blank c (digit_name c (and_parts (is_digit c) (list_all is_digit cs) number).0)
-        ]
+        | inl word ↦ name_no_blank c (letter_name c (and_parts (is_letter c) (list_all is_name_byte cs) word).0)
+        | inr number ↦ name_no_blank c (digit_name c (and_parts (is_digit c) (list_all is_digit cs) number).0)
+      ]
       | inr sign ↦ elim (cases_Bool (is_blank c)) [
-          | inl blank ↦ absurd (false≢true (rw blank at (sign_apart (c ∷ cs) sign)))
-          | inr other ↦ other
-        ]
+        | inl blank ↦ absurd (false≢true (rw blank at (sign_apart (c ∷ cs) sign)))
+        | inr other ↦ other
+      ]
     ]
 
 -- behind blanks stands what does not begin with a blank
@@ -43,7 +43,7 @@ begins_some bytes start t rest n behind front back first =
       gap = take k bytes;
       blank = run_passes is_blank bytes;
       parts = sym (take-append-drop k bytes) ∙ ap (λ (z : List ℕ). take k bytes ++ z) (sym behind ∙ sym (take-append-drop n start) ∙ ap₂ (λ (x y : List ℕ). x ++ y) (sym front) (sym back));
-      first = subst₂ IsFirst (sym front) (sym back) first.1
+      first = subst₂ IsFirst (sym front) (sym back) first.1;
     }
 
 -- where no token is first behind the blanks, none begins the bytes
@@ -56,12 +56,12 @@ begins_shorter [] rest bytes b = absurd (false≢true (sym empty_no_token ∙ b.
 begins_shorter (c ∷ cs) rest bytes b = omega (arith, ap length b.parts, length-append b.gap (c ∷ (cs ++ rest)), length-append cs rest)
 
 -- one token at most begins the bytes
-begins_unique : (t rest u other bytes : List ℕ) → Begins t rest bytes → Begins u other bytes → (t ≡ u) × (rest ≡ other)
+pub begins_unique : (t rest u other bytes : List ℕ) → Begins t rest bytes → Begins u other bytes → (t ≡ u) × (rest ≡ other)
 begins_unique t rest u other bytes x y =
     longest_unique t rest u other (first_longest t rest x.first) (first_longest u other y.first) (sym (begins_behind t rest bytes x) ∙ begins_behind u other bytes y)
 
 -- bytes that a token begins are not all blank
-begins_not_blank : (t rest bytes : List ℕ) → Begins t rest bytes → list_all is_blank bytes ≡ true → ⊥
+pub begins_not_blank : (t rest bytes : List ℕ) → Begins t rest bytes → list_all is_blank bytes ≡ true → ⊥
 begins_not_blank [] rest bytes b blank = false≢true (sym empty_no_token ∙ b.first.token)
 begins_not_blank (c ∷ cs) rest bytes b blank =
     let other : is_blank c ≡ false = lexeme_no_blank c cs (token_lexeme (c ∷ cs) b.first.token) in
@@ -90,9 +90,9 @@ pub cut_step : (found : List (List ℕ)) (t rest left bytes : List ℕ) → IsCu
 cut_step found t rest left bytes cut b = record {
   spelled = λ ts h. subst (λ (z : List (List ℕ)). Spells z bytes) (sym (append_assoc found (t ∷ []) ts)) (cut.spelled (t ∷ ts) (rest, b, h));
   only = λ ts h.
-    let before = cut.only ts h in
-    let here = only_step t rest left b before.0 before.2 in
-    (here.0, before.1 ∙ ap (λ (z : List (List ℕ)). found ++ z) here.1 ∙ sym (append_assoc found (t ∷ []) here.0), here.2)
+      let before = cut.only ts h in
+      let here = only_step t rest left b before.0 before.2 in
+      (here.0, before.1 ∙ ap (λ (z : List (List ℕ)). found ++ z) here.1 ∙ sym (append_assoc found (t ∷ []) here.0), here.2);
 }
 
 -- at the end the bytes are the tokens found

@@ -20,7 +20,7 @@ is_reserved t = list_any (λ word. bytes_eq word t) reserved_words
 abbrev pub is_name : List ℕ → Bool
 is_name t = is_identifier t && not (is_reserved t)
 
--- the value of digits: each counts ten times for each digit behind it
+-- the value of digits: each, less the 48 of `0`, counts ten times for each digit behind it
 abbrev pub number_value : List ℕ → ℕ
 number_value [] = 0
 number_value (c ∷ cs) = (c - 48) * 10 ^ length cs + number_value cs
@@ -30,7 +30,7 @@ pub record IsNumeral (digits : List ℕ) (value : ℕ) : Type 0 where
   pub number : IsTrue (is_number digits)
   pub valued : number_value digits ≡ value
 
--- the tokens of a plain program, from its nine free parts
+-- the tokens of a plain program: module m, sensor s, task t, worst case w, input a, output o, initial value i, mode n, period q
 unfoldable pub sentence : (m s t w a o i n q : List ℕ) → List (List ℕ)
 sentence m s t w a o i n q =
     codes "module" ∷ m ∷ codes "{" ∷ codes "sensor" ∷ codes "int" ∷ s ∷ codes ";" ∷
@@ -42,7 +42,7 @@ sentence m s t w a o i n q =
     codes "task" ∷ codes "[" ∷ codes "freq" ∷ codes "=" ∷ codes "1" ∷ codes "]" ∷ t ∷ codes "(" ∷ s ∷ codes ")" ∷ codes ";" ∷
     codes "}" ∷ codes "}" ∷ []
 
--- the form's names are names, those that must differ do, and its numbers are in range
+-- the form's names are names, those that must differ do, and its numbers are in range: worst in us, period in ms
 pub record IsPlainForm (form : Form) : Type 0 where
   pub module_name : IsTrue (is_name form.module)
   pub sensor_name : IsTrue (is_name form.sensor)

@@ -59,7 +59,7 @@ form_of p n = record {
   output = p.output.now;
   initial = n.initial;
   mode = p.mode.now;
-  period = n.period
+  period = n.period;
 }
 
 -- a lawful form whose names and numbers are these parts

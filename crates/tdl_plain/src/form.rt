@@ -4,7 +4,8 @@ use std::alloc::{AllocError, AllocFailed};
 use tdl_base::Text;
 use thiserror::Error;
 
-/// A plain program: each `period` its task adds the sensor's value to its output.
+/// A plain program: in each period its one task adds the sensor's value to its output. The names are
+/// identifiers of at most 64 bytes and no reserved words.
 #[derive(Debug, Drop)]
 pub struct Form {
     pub module: Text,
@@ -27,6 +28,7 @@ pub enum SourceError {
     /// The bytes are no plain source.
     #[error("not a plain source")]
     NotPlain,
+    /// Memory could not be had.
     #[error("no memory")]
     NoMemory,
 }

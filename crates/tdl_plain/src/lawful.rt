@@ -65,7 +65,11 @@ fn numbers_of(parts: &Parts) -> Option<Numbers>
     let Some(period) = number(parts.period) else {
         return None;
     };
-    let numbers = Numbers { worst, initial, period };
+    let numbers = Numbers {
+        worst,
+        initial,
+        period,
+    };
     if !in_range(&numbers) {
         return None;
     }

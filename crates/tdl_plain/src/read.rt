@@ -8,7 +8,8 @@ use crate::sentence::parts_of;
 use crate::{Form, SourceError};
 use std::alloc::Global;
 
-/// The form whose plain source the bytes are. `NotPlain` comes exactly where they are none.
+/// The form whose plain source the bytes are: there is one at most. `NotPlain` comes exactly where there
+/// is none.
 pub fn read_plain_source(alloc: Global, bytes: &[u8]) -> Result<Form, SourceError>
     ensures plain { IfOk result (λ form. IsPlainSource form bytes.now) }
     ensures only { (form : Form) → IsPlainSource form bytes.now → IfOk result (λ found. found ≡ form) }

@@ -8,9 +8,9 @@ use tdl_base::limits::IDENTIFIER_BYTES;
 
 /// The words that are no names.
 const RESERVED_WORDS: [&str; 30] = [
-    "module", "import", "public", "const", "sensor", "actuator", "task", "input", "output", "local", "if", "else",
-    "repeat", "start", "mode", "period", "wcet", "freq", "slots", "update", "switch", "to", "true", "false", "uses",
-    "boolean", "byte", "short", "int", "long",
+    "module", "import", "public", "const", "sensor", "actuator", "task", "input", "output",
+    "local", "if", "else", "repeat", "start", "mode", "period", "wcet", "freq", "slots", "update",
+    "switch", "to", "true", "false", "uses", "boolean", "byte", "short", "int", "long",
 ];
 
 fn are_name_bytes(bytes: &[u8]) -> bool

@@ -1,5 +1,5 @@
 -- What the reader of plain scenarios needs of its definitions.
-use Rattle.std.proofs.Common.{◌≡◌, ℕ, ◌<◌, ◌≤◌, List, [], ◌∷◌, length, map, pos, None, refl, arith}
+use Rattle.std.proofs.Common.{◌≡◌, ℕ, ◌<◌, ◌≤◌, List, [], ◌∷◌, length, map, None, refl, arith}
 use Rattle.std.proofs.lemmas.List.{get_or-map}
 use Rattle.std.specs.List.{slice_index, slice_index_or}
 use Rattle.tdl_scen.specs.declared.entries.Sense.{Sense}
@@ -17,10 +17,6 @@ no_statement f name (a ∷ b ∷ c ∷ d ∷ e ∷ rest) more less = refl
 -- the instant of an entry
 abbrev instant : Sense → ℕ
 instant entry = entry.at.0
-
--- any entry, to stand past the end of a list
-any_entry : Sense
-any_entry = record { «module» = record { 0 = 0 }; sensor = 0; at = record { 0 = 0 }; value = pos 0 }
 
 -- the instant at a place is that of the entry there
 pub instant_at : (senses : List Sense) (k : ℕ) (d : Sense) → k < length senses → slice_index (instants_of senses) k ≡ (slice_index_or senses k d).at.0

@@ -1,8 +1,7 @@
 -- Line files: how bytes are cut into lines and words, which lines are skipped, and what a number is.
-use Rattle.std.specs.Prelude.{ℕ, ◌+◌, ◌-◌, ◌*◌, Bool, true, ◌==◌, nat_le, ◌&&◌, ◌||◌, if◌then◌else◌, ℤ, pos, neg_ℤ, List, [], ◌∷◌, ◌++◌, length, fold, codes, Option, Some, None, option_map}
+use Rattle.std.specs.Prelude.{ℕ, ◌+◌, ◌-◌, ◌*◌, Bool, true, ◌==◌, nat_eq, nat_le, ◌&&◌, ◌||◌, if◌then◌else◌, ℤ, pos, neg_ℤ, List, [], ◌∷◌, ◌++◌, length, fold, codes, Option, Some, None, option_map}
 use Rattle.std.specs.List.{list_all, starts_with}
 use Rattle.std.specs.Char.{is_ascii_digit}
-use Rattle.std.specs.Prelude.{nat_eq}
 
 -- a piece before other pieces; an empty piece is none
 abbrev pub with_piece : List ℕ → List (List ℕ) → List (List ℕ)
@@ -21,7 +20,7 @@ lines_from front [] = with_piece front []
 lines_from front (b ∷ bs) =
     if b == 10 then without_cr front ∷ lines_from [] bs else lines_from (front ++ b ∷ []) bs
 
--- the lines of a file
+-- the lines of a file: a final LF begins no new line
 abbrev pub lines_of : List ℕ → List (List ℕ)
 lines_of bytes = lines_from [] bytes
 
@@ -46,13 +45,13 @@ is_skipped (word ∷ words) = starts_with nat_eq word (codes "#")
 
 -- a tab, or one of the codes from 32 to 126
 abbrev pub is_text_byte : ℕ → Bool
-is_text_byte b = b == 9 || nat_le 32 b && nat_le b 126
+is_text_byte b = b == 9 || (nat_le 32 b && nat_le b 126)
 
 -- a line that is not skipped has these bytes alone
 abbrev pub is_text : List ℕ → Bool
 is_text line = list_all is_text_byte line
 
--- the number that decimal digits write, read from the left
+-- the number that decimal digits write, the first of them the highest
 abbrev pub value_of_digits : List ℕ → ℕ
 value_of_digits digits = fold (λ n digit. 10 * n + (digit - 48)) 0 digits
 

@@ -14,7 +14,7 @@ use Rattle.tdl_scen.specs.Lines.{lines_of, words_of, is_skipped, is_text, number
 abbrev pub sensor_word : List ℕ → List ℕ → List ℕ
 sensor_word module_name sensor_name = module_name ++ codes "." ++ sensor_name
 
--- a number of the kind `int` alone
+-- a value that is in the kind `int`, of 32 bits
 abbrev pub in_int : ℤ → Option ℤ
 in_int v = if int_le (neg_ℤ (pos 2147483648)) v && int_le v (pos 2147483647) then Some v else None
 
@@ -22,11 +22,11 @@ in_int v = if int_le (neg_ℤ (pos 2147483648)) v && int_le v (pos 2147483647) t
 abbrev pub int_of : List ℕ → Option ℤ
 int_of word = option_and_then in_int (signed_of word)
 
--- a horizon is said
+-- the statement of a horizon
 abbrev pub horizon_at : ℕ → PlainLine
 horizon_at time = Horizon (record { 0 = time })
 
--- a value is said of the only sensor, which has the number 0 as its module does
+-- the statement of a value of the only sensor; it has the number 0, and so has its module
 abbrev pub entry_at : ℕ → ℤ → PlainLine
 entry_at time v = Entry (record { «module» = record { 0 = 0 }; sensor = 0; at = record { 0 = time }; value = v })
 
@@ -56,12 +56,12 @@ plain_line name line =
 abbrev pub are_plain : List ℕ → List (List ℕ) → Bool
 are_plain name lines = list_all (λ line. is_some (plain_line name line)) lines
 
--- the horizon that is said
+-- the horizon, if that is what is said
 abbrev pub horizon_in : Option PlainLine → Option Us
 horizon_in (Some (Horizon time)) = Some time
 horizon_in said = None
 
--- the entry that is said
+-- the entry, if that is what is said
 abbrev pub entry_in : Option PlainLine → Option Sense
 entry_in (Some (Entry entry)) = Some entry
 entry_in said = None
@@ -80,11 +80,15 @@ instants_of senses = map (λ (entry : Sense). entry.at.0) senses
 
 -- the bytes are the plain scenario `s` of this sensor of this module
 pub record IsPlainScenario (module_name sensor_name bytes : List ℕ) (s : Scenario) : Type 0 where
+  -- every line is skipped, a horizon or an entry
   pub lines : IsTrue (are_plain (sensor_word module_name sensor_name) (lines_of bytes))
+  -- exactly one line is a horizon, within the limit
   pub horizon : horizons_of (sensor_word module_name sensor_name) (lines_of bytes) ≡ s.horizon ∷ []
   pub limit : s.horizon.0 ≤ HORIZON_US
+  -- the entries are those of the lines, and each is later than the one before it
   pub senses : entries_of (sensor_word module_name sensor_name) (lines_of bytes) ≡ s.senses
   pub rising : IsStrictlyIncreasing (instants_of s.senses)
+  -- there is nothing else
   pub times : s.times ≡ []
   pub order : s.order ≡ []
   pub binds : s.binds ≡ []

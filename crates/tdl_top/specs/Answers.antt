@@ -114,6 +114,18 @@ pub record PrintsPart (holds : Option Held) (words : Words) (out : SinkCall) : T
 abbrev pub IsSilent : SinkCall → Type 0
 IsSilent out = out.contents_behind ≡ out.contents
 
+-- nothing was printed, or a first part of the text of the run of the inputs that were read
+abbrev pub PrintsLess : Option Held → Words → SinkCall → Type 0
+PrintsLess holds words out = IsSilent out ⊎ PrintsPart holds words out
+
+-- the answers before anything is printed
+abbrev pub IsRefusal : Status → Type 0
+IsRefusal Usage = Unit {0}
+IsRefusal (LoadFailed w) = Unit {0}
+IsRefusal (TooLong w) = Unit {0}
+IsRefusal (BadForm w) = Unit {0}
+IsRefusal status = ⊥
+
 -- what each answer says
 abbrev pub Says : FilesCall → Words → SinkCall → Status → Type 0
 Says files words out Ok = (is_run words ≡ true) × PrintsRun files.holds words out
@@ -122,4 +134,4 @@ Says files words out (LoadFailed w) = (is_run words ≡ true) × IsLoadFault fil
 Says files words out (TooLong w) = (is_run words ≡ true) × IsTooLong files.holds words w × IsSilent out
 Says files words out (BadForm w) = (is_run words ≡ true) × IsOfNoForm files.holds words w × IsSilent out
 Says files words out WriteFailed = (is_run words ≡ true) × Rose out.faults out.faults_behind × PrintsPart files.holds words out
-Says files words out NoMemory = (is_run words ≡ true) × (IsSilent out ⊎ PrintsPart files.holds words out)
+Says files words out NoMemory = (is_run words ≡ true) × PrintsLess files.holds words out

@@ -8,7 +8,12 @@ use Rattle.tdl_top.specs.Answers.{FilesCall, SinkCall}
 
 abbrev pub call_of : Option Held → ℕ → ℕ → Option Counts → Option Counts → FilesCall
 call_of holds faults faults_behind loads loads_behind = record {
-  holds = holds; faults = faults; faults_behind = faults_behind; loads = loads; loads_behind = loads_behind }
+  holds = holds;
+  faults = faults;
+  faults_behind = faults_behind;
+  loads = loads;
+  loads_behind = loads_behind;
+}
 
 -- what a refusal of a load of a name says, at this limit and word
 abbrev pub LoadSays : FilesCall → List ℕ → ℕ → ℕ → Status → Type 0
@@ -20,4 +25,8 @@ LoadSays files name limit at status = ⊥
 
 abbrev pub put_of : Option (List ℕ) → Option (List ℕ) → ℕ → ℕ → SinkCall
 put_of contents contents_behind faults faults_behind = record {
-  contents = contents; contents_behind = contents_behind; faults = faults; faults_behind = faults_behind }
+  contents = contents;
+  contents_behind = contents_behind;
+  faults = faults;
+  faults_behind = faults_behind;
+}

@@ -37,11 +37,7 @@ fn load<F: Files>(
 }
 
 /// The form of the source that the words name.
-pub fn read_source<F: Files>(
-    alloc: Global,
-    files: &mut F,
-    words: &[String],
-) -> Result<Form, Status>
+pub fn read_source<F: Files>(alloc: Global, files: &mut F, words: &[String]) -> Result<Form, Status>
     ensures ok { IfOk result (HasSource (F.holds files.old) (texts words.now)) }
     ensures refused { IfErr result (InputSays (call_of (F.holds files.old) (F.faults files.old) (F.faults files.new) (F.failed_loads files.old) (F.failed_loads files.new)) (texts words.now)) }
     ensures held { F.holds files.new ≡ F.holds files.old }

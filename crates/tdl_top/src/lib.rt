@@ -9,3 +9,6 @@ mod words;
 
 pub use status::Status;
 pub use top::tdl;
+
+#[cfg(test)]
+mod tests;

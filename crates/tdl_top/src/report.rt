@@ -62,7 +62,7 @@ pub fn report<E: Sink>(alloc: Global, words: &[String], status: Status, err: &mu
         Status::Ok => unreachable!(),
         Status::Usage => {
             say(b"tdl: usage\n", err);
-            status
+            Status::Usage
         }
         Status::LoadFailed { word } => {
             say_named(alloc, b"tdl: cannot load ", words, word, status, err)
@@ -73,11 +73,11 @@ pub fn report<E: Sink>(alloc: Global, words: &[String], status: Status, err: &mu
         Status::BadForm { word } => say_named(alloc, b"tdl: form ", words, word, status, err),
         Status::WriteFailed => {
             say(b"tdl: cannot write\n", err);
-            status
+            Status::WriteFailed
         }
         Status::NoMemory => {
             say(b"tdl: no memory\n", err);
-            status
+            Status::NoMemory
         }
     }
 }

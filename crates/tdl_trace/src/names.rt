@@ -41,7 +41,7 @@ pub struct Named {
 
 // Each name is empty where the number has none.
 impl Names {
-    pub fn node_name(&self, node: NodeId) -> &str
+    pub(crate) fn node_name(&self, node: NodeId) -> &str
         ensures { result.now ≡ node_name self.now node.0 }
     {
         match self.nodes.get(usize::from(node.0)) {
@@ -68,7 +68,7 @@ impl Names {
         }
     }
 
-    pub fn module_name(&self, module: ModuleId) -> &str
+    pub(crate) fn module_name(&self, module: ModuleId) -> &str
         ensures { result.now ≡ module_name self.now «module».0 }
     {
         match self.module(module) {
@@ -77,7 +77,7 @@ impl Names {
         }
     }
 
-    pub fn mode_name(&self, module: ModuleId, mode: ModeId) -> &str
+    pub(crate) fn mode_name(&self, module: ModuleId, mode: ModeId) -> &str
         ensures { result.now ≡ mode_name self.now «module».0 mode.0 }
     {
         match self.module(module) {
@@ -89,7 +89,7 @@ impl Names {
         }
     }
 
-    pub fn actuator_name(&self, module: ModuleId, actuator: u16) -> &str
+    pub(crate) fn actuator_name(&self, module: ModuleId, actuator: u16) -> &str
         ensures { result.now ≡ actuator_name self.now «module».0 actuator }
     {
         match self.module(module) {
@@ -101,7 +101,7 @@ impl Names {
         }
     }
 
-    pub fn task_name(&self, module: ModuleId, task: TaskId) -> &str
+    pub(crate) fn task_name(&self, module: ModuleId, task: TaskId) -> &str
         ensures { result.now ≡ task_name self.now «module».0 task.0 }
     {
         match self.task(module, task) {
@@ -110,7 +110,7 @@ impl Names {
         }
     }
 
-    pub fn output_name(&self, module: ModuleId, task: TaskId, output: u16) -> &str
+    pub(crate) fn output_name(&self, module: ModuleId, task: TaskId, output: u16) -> &str
         ensures { result.now ≡ output_name self.now «module».0 task.0 output }
     {
         match self.task(module, task) {

@@ -33,8 +33,7 @@ pub enum Row {
     },
 }
 
-/// Rows in order, which contracts see as the list of what they show. Room is taken before rows are
-/// put into it.
+/// Rows in order, which contracts see as the list of what they show.
 #[derive(Debug, Drop)]
 pub struct Rows {
     rows: Vec<Row>,
@@ -52,6 +51,7 @@ impl Model for Rows {
 impl Rows {
     ghost use Rattle.tdl_trace.specs.Shown.{shown_of};
 
+    /// No rows. It takes no memory.
     pub fn new(alloc: Global) -> Rows
         ensures { result ≡ [] }
     {
@@ -60,6 +60,7 @@ impl Rows {
         }
     }
 
+    /// Appends a row. Without memory the rows are unchanged.
     pub fn push(&mut self, row: Row) -> Result<(), NoMemory>
         ensures ok { OnOk result (self.new ≡ self.old ++ shown_of row ∷ []) }
         ensures err { OnErr result (self.new ≡ self.old) }
@@ -68,18 +69,21 @@ impl Rows {
         Ok(())
     }
 
+    /// Takes all rows out, and keeps their room.
     pub fn clear(&mut self)
         ensures { self.new ≡ [] }
     {
         self.rows.clear();
     }
 
+    /// How many rows there are.
     pub fn len(&self) -> usize
         ensures { result ≡ length self.now }
     {
         self.rows.len()
     }
 
+    /// A row by its place from 0, `None` where there is none.
     pub fn get(&self, i: usize) -> Option<&Row>
         ensures { option_map (λ row. shown_of row.now) result ≡ slice_get self.now i }
     {

@@ -1,7 +1,5 @@
 use Rattle.std.proofs.Common.{rules}
-use Rattle.std.proofs.Common.{sym, ◌∙◌}
-use Rattle.std.proofs.lemmas.Bool.{false≢true}
-use Rattle.tdl_plain.proofs.Plain.{form_names, form_apart, formed_all}
+use Rattle.tdl_plain.proofs.Plain.{formed_all}
 use Rattle.tdl_plain.proofs.lawful.form_of.Goals as goal
 
 pub returns-clause-ok : goal.returns-clause-ok

@@ -1,5 +1,3 @@
-use Rattle.std.proofs.Common.{◌≡◌, ◌∙◌, sym, ap, map, List, ℕ, Bor}
-use Rattle.tdl_plain.specs.Reading.{sentence_of}
 use Rattle.tdl_plain.proofs.Plain.{form_from, plain_all, only_all}
 use Rattle.tdl_plain.proofs.read.read_plain_source.Goals as goal
 
