@@ -17,20 +17,24 @@ abbrev pub look_of_cells : Cells → Look
 look_of_cells cells = record {
   cell = λ k. slice_index_or cells.values k (pos 0);
   sensor = λ _. pos 0;
-  port = λ _. pos 0 }
+  port = λ _. pos 0;
+}
 
 -- the cell takes the number, narrowed to its kind
 abbrev pub stored : ℕ → ℤ → Cells → Cells
 stored k v cells = record cells { values = slice_set cells.values k (narrowed (slice_index_or cells.kinds k Long) v) }
 
+-- f done n times
 abbrev pub repeated : ℕ → (Cells → Cells) → Cells → Cells
 repeated zero f cells = cells
 repeated (suc n) f cells = f (repeated n f cells)
 
+-- what each does, one after the other
 abbrev pub in_turn : List (Cells → Cells) → Cells → Cells
 in_turn [] cells = cells
 in_turn (f ∷ fs) cells = in_turn fs (f cells)
 
+-- a second block that may be absent
 abbrev pub or_nothing : Option (Cells → Cells) → Cells → Cells
 or_nothing None cells = cells
 or_nothing (Some f) cells = f cells
@@ -42,6 +46,7 @@ stmt_step (Stmt-F.If test then' other) cells =
     if is_true (value_of test (look_of_cells cells)) then then' cells else or_nothing other cells
 stmt_step (Stmt-F.Repeat count block) cells = repeated count block cells
 
+-- what a block does, given what its statements do
 abbrev pub block_step : Body-F (Cells → Cells) (Cells → Cells) → Cells → Cells
 block_step block = in_turn block.stmts
 

@@ -15,7 +15,10 @@ pub enum Expr {
 #[derive(Debug, Drop)]
 pub enum Stmt {
     /// The cell takes the expression's number, narrowed to the cell's kind.
-    Assign { cell: u16, value: Expr },
+    Assign {
+        cell: u16,
+        value: Expr,
+    },
     /// `then` is done where the condition is not 0, `other` where it is 0.
     If {
         cond: Expr,
@@ -23,7 +26,10 @@ pub enum Stmt {
         other: Option<Body>,
     },
     /// The body is done `count` times.
-    Repeat { count: u16, body: Body },
+    Repeat {
+        count: u16,
+        body: Body,
+    },
 }
 
 /// The statements of a block, in order.

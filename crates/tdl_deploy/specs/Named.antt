@@ -17,11 +17,14 @@ use Rattle.tdl_deploy.specs.Placed.{is_among}
 abbrev pub one_node : Program → Placement
 one_node program = record {
   nodes = record { name = codes "n1"; modules = numbered 0 (λ m d. record { 0 = m }) program.modules } ∷ [];
-  bus = None }
+  bus = None;
+}
 
+-- the kind and the name of a port
 abbrev pub named : PortDef → Named
 named p = record { kind = p.kind; name = p.name }
 
+-- the names of a task and its outputs
 abbrev pub task_names : Task → TaskNames
 task_names t = record { name = t.name; worst = t.worst; outputs = map named t.outputs }
 
@@ -30,6 +33,7 @@ abbrev pub host_from : ℕ → ℕ → List PlacedNode → ℕ
 host_from m k [] = k
 host_from m k (n ∷ ns) = if is_among m n.modules then k else host_from m (suc k) ns
 
+-- the names of module m and its parts, and the node that hosts it
 abbrev pub module_names : Placement → ℕ → Module → ModuleNames
 module_names placement m d = record {
   number = record { 0 = m };
@@ -38,10 +42,12 @@ module_names placement m d = record {
   sensors = map named d.sensors;
   actuators = map named d.actuators;
   tasks = map task_names d.tasks;
-  modes = map (λ mode. mode.name) d.modes }
+  modes = map (λ mode. mode.name) d.modes;
+}
 
 -- the names of the nodes and of all modules with their parts, in order
 abbrev pub names_of : Program → Placement → Names
 names_of program placement = record {
   nodes = map (λ n. n.name) placement.nodes;
-  modules = numbered 0 (module_names placement) program.modules }
+  modules = numbered 0 (module_names placement) program.modules;
+}

@@ -9,9 +9,11 @@ use Rattle.tdl_deploy.specs.declared.placement.Placement.{Placement}
 use Rattle.tdl_deploy.specs.declared.placement.PlacedNode.{PlacedNode}
 use Rattle.tdl_deploy.specs.declared.placement.BusCost.{BusCost}
 
+-- m is one of these modules
 abbrev pub is_among : ℕ → List ModuleId → Bool
 is_among m ids = list_any (λ i. i.0 == m) ids
 
+-- the modules that a node hosts
 abbrev pub hosted_on : Placement → ℕ → List ModuleId
 hosted_on placement node = unwrap_or (option_map (λ n. n.modules) (slice_get placement.nodes node)) []
 
@@ -19,6 +21,7 @@ hosted_on placement node = unwrap_or (option_map (λ n. n.modules) (slice_get pl
 abbrev pub hosts : Placement → ℕ → ℕ → Bool
 hosts placement node m = is_among m (hosted_on placement node)
 
+-- the modules that module m imports directly
 abbrev pub imports_of : Program → ℕ → List ModuleId
 imports_of program m = unwrap_or (option_map (λ d. d.imports) (slice_get program.modules m)) []
 

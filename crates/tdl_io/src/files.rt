@@ -9,10 +9,10 @@ use thiserror::Error;
 /// Why a file was not loaded.
 #[derive(Clone, Copy, Debug, PartialEq, Eq, Error)]
 pub enum FileAnswer {
-    /// The files failed, and their count of faults rose.
+    /// The files failed: their count of faults rose.
     #[error("the file could not be read")]
     Failed,
-    /// The file has more bytes than the limit.
+    /// The file is longer than the limit.
     #[error("the file is too long")]
     TooLong,
     /// Memory could not be had.
@@ -41,31 +41,32 @@ pub trait Files {
     /// What they hold, or None where they do not tell it.
     ghost holds: { Self → Option Held };
 
-    /// How many calls failed, up to the greatest u64.
+    /// A count of their faults, which never falls and may stand still at the greatest u64.
     ghost faults: { Self → ℕ };
 
-    /// For each name how many of its loads failed, or None where they do not tell it.
+    /// For each name a count of its failed loads, or None where they do not tell it.
     ghost failed_loads: { Self → Option Counts };
 
-    /// Reads a whole file into `into`, which is empty at first: of a name that is absent nothing, where
-    /// that is no fault. `limit` is the greatest length that is taken, in bytes. Of a file that is
-    /// longer at most one byte more than `limit` is read.
+    /// Reads a whole file into `into`, which is empty at first; of an absent name nothing, where that
+    /// is no fault. `limit` is the greatest length of the file, in bytes. Of a longer one at most one
+    /// byte past the limit is read.
     fn load(&mut self, name: &str, limit: usize, into: &mut Vec<u8>) -> Result<(), FileAnswer>
         requires { into.old.items ≡ [] }
 
         ensures held { holds self.new ≡ holds self.old }
         ensures whole { OnOk result (Reads (holds self.old) name.now into.new.items) }
         ensures within { OnOk result (length into.new.items ≤ limit) }
+        ensures bounded { length into.new.items ≤ limit + 1 }
 
         // After a refusal the file begins with what was read.
         ensures part { OnErr result (ReadsPart (holds self.old) name.now into.new.items) }
-        ensures bounded { length into.new.items ≤ limit + 1 }
-
         ensures too_long { IsErrOf result FileAnswer.TooLong → limit < length into.new.items }
-        ensures longer { IsErrOf result FileAnswer.TooLong → IsLonger (holds self.old) name.now limit }
+        ensures longer { IsErrOf result FileAnswer.TooLong
+            → IsLonger (holds self.old) name.now limit }
 
         ensures later { faults self.old ≤ faults self.new }
-        ensures cause { IsErrOf result FileAnswer.Failed → Rose (faults self.old) (faults self.new) }
+        ensures cause { IsErrOf result FileAnswer.Failed
+            → Rose (faults self.old) (faults self.new) }
 
         ensures later_by_name { NoCountFalls (failed_loads self.old) (failed_loads self.new) }
         ensures others { ChangesOnly (failed_loads self.old) (failed_loads self.new) name.now }

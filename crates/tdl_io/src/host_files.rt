@@ -10,7 +10,8 @@ use std::{fs, rt};
 /// How many bytes are read at once.
 const CHUNK: usize = 4096;
 
-/// The files of the host. They tell neither what they hold nor counts by name.
+/// The files of the host, and a count of the loads that failed, which stands still at the greatest
+/// u64. They tell neither what they hold nor counts by name.
 #[derive(Drop)]
 pub struct HostFiles<'a, R> {
     rt: &'a R,
@@ -18,6 +19,7 @@ pub struct HostFiles<'a, R> {
 }
 
 impl<'a, R: rt::Files> HostFiles<'a, R> {
+    /// No load has failed yet.
     pub fn new(rt: &'a R) -> HostFiles<'a, R>
         ensures { ⟦<HostFiles<'a, R> as Files>⟧.faults result ≡ 0 }
     {
@@ -83,8 +85,9 @@ fn read_some<R: Read>(file: &mut R, room: usize, into: &mut Vec<u8>) -> Result<u
     requires some { 0 < room }
     requires chunk { room ≤ CHUNK }
     ensures within { IfOk result (λ count. count ≤ room) }
-    ensures count { IfOk result (λ count. length into.new.items ≡ length into.old.items + count) }
-    ensures moved { OnOk result (Moves (R.remaining file.old) (R.remaining file.new) into.old.items into.new.items) }
+    ensures grows { IfOk result (λ count. length into.new.items ≡ length into.old.items + count) }
+    ensures moved { OnOk result
+        (Moves (R.remaining file.old) (R.remaining file.new) into.old.items into.new.items) }
     ensures end { IfOk result (λ count. count ≡ 0 → IsAtEnd (R.remaining file.new)) }
     ensures err { OnErr result (into.new.items ≡ into.old.items) }
     ensures never_too_long { ¬ (IsErrOf result FileAnswer.TooLong) }

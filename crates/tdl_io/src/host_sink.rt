@@ -3,7 +3,8 @@ ghost use Rattle.std.specs.Prelude.{◌≡◌, None};
 use crate::{Sink, SinkFailed};
 use std::io::{Print, Stderr};
 
-/// The process's standard output or standard error. It does not tell what it holds.
+/// The process's standard output or standard error, and a count of the puts that failed, which stands
+/// still at the greatest u64. It does not tell what it holds.
 #[derive(Drop)]
 pub struct HostSink<P> {
     to: P,

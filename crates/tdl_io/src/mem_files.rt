@@ -1,6 +1,6 @@
-ghost use Rattle.std.specs.Prelude.{◌≡◌, ◌++◌, ◌∷◌, ◌+◌, ◌<◌, ◌≤◌, ◌↔◌, ◌⊎◌, [], Some, length, IsTrue, OnOk, OnErr, IsErrOf};
+ghost use Rattle.std.specs.Prelude.{◌≡◌, ◌++◌, ◌∷◌, ◌+◌, ◌<◌, ◌≤◌, ◌↔◌, ◌⊎◌, [], List, ℕ, ◌≢◌, Some, length, IsTrue, OnOk, OnErr, IsErrOf};
 ghost use Rattle.std.specs.Option.{option_copied};
-ghost use Rattle.tdl_io.specs.Outside.{IsPart, file_in, Rose, NoCountFalls, ChangesOnly, HasNamedCause};
+ghost use Rattle.tdl_io.specs.Outside.{IsPart, file_in, Rose};
 ghost use Rattle.tdl_io.specs.MemFiles.{entries_of, held_in, failures, failures_of, load_fails, after_load};
 
 use crate::entries::{find_entry, read_up_to};
@@ -30,14 +30,19 @@ impl Model for MemFiles {
 
     ghost Value = { FilesState };
 
-    ghost view = { λ f. record { entries = entries_of f.files.items; fail = f.fail.items; calls = f.calls.items } };
+    ghost view = { λ f. record {
+      entries = entries_of f.files.items;
+      fail = f.fail.items;
+      calls = f.calls.items;
+    } };
 }
 
 impl MemFiles {
-    /// Of several entries with one name the first is held. Calls are counted from 1; those whose
-    /// numbers are in `fail` fail.
+    /// Of several entries with one name the first is held. Calls are counted from 1, and those whose
+    /// numbers are in `fail` are told to fail.
     pub fn new(alloc: Global, files: Vec<(String, Vec<u8>)>, fail: Vec<u64>) -> MemFiles
-        ensures { result ≡ record { entries = entries_of files.items; fail = fail.items; calls = [] } }
+        ensures { result
+            ≡ record { entries = entries_of files.items; fail = fail.items; calls = [] } }
     {
         MemFiles {
             alloc,
@@ -70,8 +75,8 @@ impl Files for MemFiles {
 
     ghost failed_loads = { λ f. Some (failures_of f.calls) };
 
-    /// Records the call before it does anything else. It fails exactly where it is told to, or where
-    /// no such name is held.
+    /// Records the call before it does anything else; one that finds no memory for its record is not
+    /// counted. It fails exactly where it is told to, or where no such name is held.
     fn load(&mut self, name: &str, limit: usize, into: &mut Vec<u8>) -> Result<(), FileAnswer>
         requires { into.old.items ≡ [] }
 
@@ -85,17 +90,21 @@ impl Files for MemFiles {
         ensures held { self.new.entries ≡ self.old.entries }
         ensures whole { OnOk result (held_in self.old.entries name.now ≡ Some into.new.items) }
         ensures within { OnOk result (length into.new.items ≤ limit) }
-        ensures part { OnErr result (IsPart into.new.items (file_in (held_in self.old.entries) name.now)) }
+        ensures part { OnErr result
+            (IsPart into.new.items (file_in (held_in self.old.entries) name.now)) }
         ensures bounded { length into.new.items ≤ limit + 1 }
         ensures too_long { IsErrOf result FileAnswer.TooLong → limit < length into.new.items }
         ensures longer { IsErrOf result FileAnswer.TooLong
             → limit < length (file_in (held_in self.old.entries) name.now) }
         ensures later { failures self.old.calls ≤ failures self.new.calls }
-        ensures cause { IsErrOf result FileAnswer.Failed → Rose (failures self.old.calls) (failures self.new.calls) }
-        ensures later_by_name { NoCountFalls (Some (failures_of self.old.calls)) (Some (failures_of self.new.calls)) }
-        ensures others { ChangesOnly (Some (failures_of self.old.calls)) (Some (failures_of self.new.calls)) name.now }
+        ensures cause { IsErrOf result FileAnswer.Failed
+            → Rose (failures self.old.calls) (failures self.new.calls) }
+        ensures later_by_name { (each : List ℕ)
+            → failures_of self.old.calls each ≤ failures_of self.new.calls each }
+        ensures others { (other : List ℕ) → other ≢ name.now
+            → failures_of self.new.calls other ≡ failures_of self.old.calls other }
         ensures named_cause { IsErrOf result FileAnswer.Failed
-            → HasNamedCause (Some (failures_of self.old.calls)) (Some (failures_of self.new.calls)) name.now }
+            → Rose (failures_of self.old.calls name.now) (failures_of self.new.calls name.now) }
     {
         let fails = self.fails(name);
         add_call(self.alloc, &mut self.calls, name, fails)?;
@@ -111,16 +120,20 @@ impl Files for MemFiles {
 
 /// Records a call behind those before it.
 fn add_call(alloc: Global, calls: &mut Vec<Call>, name: &str, failed: bool) -> Result<(), NoMemory>
-    ensures ok { OnOk result (calls.new.items ≡ calls.old.items ++ record { name = name.now; failed = failed } ∷ []) }
+    ensures ok { OnOk result (calls.new.items
+        ≡ calls.old.items ++ record { name = name.now; failed = failed } ∷ []) }
     ensures err { OnErr result (calls.new.items ≡ calls.old.items) }
 
     ensures later { failures calls.old.items ≤ failures calls.new.items }
-    ensures cause { OnOk result (IsTrue failed → Rose (failures calls.old.items) (failures calls.new.items)) }
+    ensures cause { OnOk result (IsTrue failed
+        → Rose (failures calls.old.items) (failures calls.new.items)) }
 
-    ensures later_by_name { NoCountFalls (Some (failures_of calls.old.items)) (Some (failures_of calls.new.items)) }
-    ensures others { ChangesOnly (Some (failures_of calls.old.items)) (Some (failures_of calls.new.items)) name.now }
+    ensures later_by_name { (each : List ℕ)
+        → failures_of calls.old.items each ≤ failures_of calls.new.items each }
+    ensures others { (other : List ℕ) → other ≢ name.now
+        → failures_of calls.new.items other ≡ failures_of calls.old.items other }
     ensures named_cause { OnOk result (IsTrue failed
-        → HasNamedCause (Some (failures_of calls.old.items)) (Some (failures_of calls.new.items)) name.now) }
+        → Rose (failures_of calls.old.items name.now) (failures_of calls.new.items name.now)) }
 {
     calls.push(Call {
         name: Text::from_str(alloc, name)?,

@@ -22,16 +22,23 @@ impl Model for MemSink {
 
     ghost Value = { SinkState };
 
-    ghost view = { λ s. record { bytes = s.bytes.items; room = s.room; fail = s.fail.items; puts = s.puts; faults = s.faults } };
+    ghost view = { λ s. record {
+      bytes = s.bytes.items;
+      room = s.room;
+      fail = s.fail.items;
+      puts = s.puts;
+      faults = s.faults;
+    } };
 
     ghost invariant = { λ s. (vec_len s.bytes ≤ s.room) × (s.room ≤ vec_capacity s.bytes) };
 }
 
 impl MemSink {
-    /// Takes memory for `room` bytes, and none later. Puts are counted from 1; those whose numbers
-    /// are in `fail` fail.
+    /// Takes memory for `room` bytes, and none later. Puts are counted from 1, and those whose numbers
+    /// are in `fail` are told to fail.
     pub fn new(alloc: Global, room: usize, fail: Vec<u64>) -> Result<MemSink, NoMemory>
-        ensures { IfOk result (λ s. s ≡ record { bytes = []; room = room; fail = fail.items; puts = 0; faults = 0 }) }
+        ensures { IfOk result (λ sink. sink
+            ≡ record { bytes = []; room = room; fail = fail.items; puts = 0; faults = 0 }) }
     {
         Ok(MemSink {
             bytes: Vec::with_capacity(alloc, room)?,
@@ -42,6 +49,7 @@ impl MemSink {
         })
     }
 
+    /// The bytes that it holds.
     pub fn bytes(&self) -> &[u8]
         ensures { result.now ≡ self.now.bytes }
     {
@@ -54,7 +62,8 @@ impl Sink for MemSink {
 
     ghost faults = { λ s. s.faults };
 
-    /// A put that fails takes no byte.
+    /// It fails exactly where it is told to, or where the bytes do not fit the room that is left, and
+    /// then takes no byte.
     fn put(&mut self, bytes: &[u8]) -> Result<(), SinkFailed>
         ensures answer { IsErr result ↔ IsTrue (put_fails self.old bytes.now) }
         ensures after { self.new ≡ after_put self.old bytes.now }

@@ -19,7 +19,8 @@ fn load_one<F: Files>(
     into: &mut Vec<u8>,
 ) -> Result<(), FileAnswer>
     requires { into.old.items ≡ [] }
-    ensures exact { (held : Held) → F.holds files.old ≡ Some held → ¬ (Rose (F.faults files.old) (F.faults files.new))
+    ensures exact { (held : Held) → F.holds files.old ≡ Some held
+        → ¬ (Rose (F.faults files.old) (F.faults files.new))
         → ¬ (IsErrOf result FileAnswer.NoMemory)
         → IsErrOf result FileAnswer.TooLong ↔ (limit < length (file_in held name.now)) }
 {
@@ -46,8 +47,10 @@ fn load_two<F: Files>(
     requires second { into_second.old.items ≡ [] }
     ensures later { F.faults files.old ≤ F.faults files.new }
     ensures later_by_name { NoCountFalls (F.failed_loads files.old) (F.failed_loads files.new) }
-    ensures first { IsErrOf result Failed.First → HasNamedCause (F.failed_loads files.old) (F.failed_loads files.new) first.now }
-    ensures second { IsErrOf result Failed.Second → HasNamedCause (F.failed_loads files.old) (F.failed_loads files.new) second.now }
+    ensures first { IsErrOf result Failed.First
+        → HasNamedCause (F.failed_loads files.old) (F.failed_loads files.new) first.now }
+    ensures second { IsErrOf result Failed.Second
+        → HasNamedCause (F.failed_loads files.old) (F.failed_loads files.new) second.now }
     ensures cause { OnErr result (Rose (F.faults files.old) (F.faults files.new)) }
 {
     let early = files.load(first, limit, into_first);
@@ -63,8 +66,10 @@ fn load_two<F: Files>(
 
 /// A sink holds both pieces, or the first piece and a part of the second one.
 fn put_two<S: Sink>(sink: &mut S, first: &[u8], second: &[u8]) -> Result<(), SinkFailed>
-    ensures ok { OnOk result (Appends (S.contents sink.old) (S.contents sink.new) (first.now ++ second.now)) }
-    ensures err { OnErr result (AppendsPart (S.contents sink.old) (S.contents sink.new) (first.now ++ second.now)) }
+    ensures ok { OnOk result
+        (Appends (S.contents sink.old) (S.contents sink.new) (first.now ++ second.now)) }
+    ensures err { OnErr result
+        (AppendsPart (S.contents sink.old) (S.contents sink.new) (first.now ++ second.now)) }
     ensures cause { OnErr result (Rose (S.faults sink.old) (S.faults sink.new)) }
 {
     sink.put(first)?;

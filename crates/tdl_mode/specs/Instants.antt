@@ -19,8 +19,8 @@ for_all phase sensed state = numbered 0 (λ k m. phase (look_in state sensed k m
 unfoldable pub logical : ℕ → Sensed → State → State
 logical x sensed state =
     for_all (phase_four x) sensed
-      (for_all (phase_three x) sensed
-        (for_all (phase_two x) sensed (map (phase_one x) state)))
+    (for_all (phase_three x) sensed
+    (for_all (phase_two x) sensed (map (phase_one x) state)))
 
 -- the four phases of module k alone, where `seen` gives the outputs of the modules that it imports
 unfoldable pub alone : ℕ → ℕ → Sensed → (PortKey → ℤ) → ModuleState → ModuleState
@@ -29,6 +29,7 @@ alone k x sensed seen m = phase_four x look (phase_three x look (phase_two x loo
     look : Look
     look = look_of k (phase_one x m).tasks sensed seen
 
+-- a task before its first job
 abbrev pub begun_task : Task → TaskState
 begun_task t = record { text = t; outputs = initials_of t.outputs; active = None }
 
@@ -39,7 +40,8 @@ entered m = record {
   mode = m.start.0;
   base = 0;
   tasks = map begun_task m.tasks;
-  actuators = initials_of m.actuators }
+  actuators = initials_of m.actuators;
+}
 
 -- instant 0: every module enters its start mode, and releases follow
 unfoldable pub begun : Program → Sensed → State

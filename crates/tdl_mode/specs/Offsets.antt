@@ -11,6 +11,7 @@ offset_list mode =
     ++ map (λ u. u.at.0) mode.updates
     ++ map (λ s. s.at.0) mode.switches
 
+-- o is an offset of the mode
 abbrev pub is_offset : Mode → ℕ → Bool
 is_offset mode o = list_any (λ p. p == o) (offset_list mode)
 
@@ -28,6 +29,7 @@ abbrev pub inserted : ℕ → List ℕ → List ℕ
 inserted o [] = o ∷ []
 inserted o (p ∷ ps) = if nat_lt o p then o ∷ p ∷ ps else (if o == p then p ∷ ps else p ∷ inserted o ps)
 
+-- the numbers of a list, ascending and each once
 abbrev pub ascending : List ℕ → List ℕ
 ascending [] = []
 ascending (o ∷ os) = inserted o (ascending os)

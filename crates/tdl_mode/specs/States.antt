@@ -41,6 +41,7 @@ pub record ModuleState : Type 0 where
   pub tasks : List TaskState
   pub actuators : List ℤ
 
+-- all modules, in order of their numbers
 abbrev pub State : Type 0
 State = List ModuleState
 
@@ -52,9 +53,11 @@ Sensed = ℕ → ℕ → ℤ
 abbrev pub Course : Type 0
 Course = ℕ → Sensed
 
+-- the kinds of ports
 abbrev pub kinds_of : List PortDef → List Kind
 kinds_of ports = map (λ p. p.kind) ports
 
+-- the numbers that ports begin with
 abbrev pub initials_of : List PortDef → List ℤ
 initials_of ports = map (λ p. p.initial) ports
 
@@ -66,7 +69,8 @@ result_of task inputs old =
     cells : Cells
     cells = record {
       kinds = kinds_of task.inputs ++ kinds_of task.outputs ++ kinds_of task.locals;
-      values = inputs ++ old ++ replicate (length task.locals) (pos 0) }
+      values = inputs ++ old ++ replicate (length task.locals) (pos 0);
+    }
 
 -- the mode that a module is in, where it has it
 abbrev pub present : ModuleState → Option Mode
@@ -94,4 +98,5 @@ abbrev pub look_of : ℕ → List TaskState → Sensed → (PortKey → ℤ) →
 look_of k tasks sensed seen = record {
   cell = λ _. pos 0;
   sensor = sensed k;
-  port = λ key. if key.module.0 == k then output_at tasks key.task.0 key.output else seen key }
+  port = λ key. if key.module.0 == k then output_at tasks key.task.0 key.output else seen key;
+}

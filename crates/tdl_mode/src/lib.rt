@@ -4,6 +4,4 @@
 
 mod program;
 
-pub use program::{
-    Constant, Invocation, Mode, Module, PortDef, Program, Switch, Task, Update,
-};
+pub use program::{Constant, Invocation, Mode, Module, PortDef, Program, Switch, Task, Update};

@@ -23,7 +23,7 @@ value_unique d e v w same x y = sym x.valued ∙ ap number_value same ∙ y.valu
 pub source_unique : (f g : Form) (bytes : List ℕ) → IsPlainSource f bytes → IsPlainSource g bytes → f ≡ g
 source_unique f g bytes x y =
     let parts = same_parts f.module f.sensor f.task x.worst f.input f.output x.initial f.mode x.period g.module g.sensor g.task y.worst g.input g.output y.initial g.mode y.period
-          (spells_unique _ _ bytes x.spelled y.spelled) in
+    (spells_unique _ _ bytes x.spelled y.spelled) in
     λ i. record {
       «module» = parts.same_module i;
       sensor = parts.same_sensor i;
@@ -33,4 +33,5 @@ source_unique f g bytes x y =
       output = parts.same_output i;
       initial = value_unique x.initial y.initial f.initial g.initial parts.same_initial x.initial_value y.initial_value i;
       mode = parts.same_mode i;
-      period = value_unique x.period y.period f.period g.period parts.same_period x.period_value y.period_value i }
+      period = value_unique x.period y.period f.period g.period parts.same_period x.period_value y.period_value i;
+    }

@@ -13,6 +13,7 @@ use Rattle.tdl_mode.specs.declared.program.Invocation.{Invocation}
 use Rattle.tdl_mode.specs.declared.program.PortDef.{PortDef}
 use Rattle.tdl_plain.specs.declared.form.Form.{Form}
 
+-- a port of the kind int
 abbrev pub int_port : List ℕ → ℕ → PortDef
 int_port name initial = record { kind = Int; name = name; initial = pos initial }
 
@@ -20,6 +21,7 @@ int_port name initial = record { kind = Int; name = name; initial = pos initial 
 abbrev pub add_input : Body
 add_input = record { stmts = stmt.Assign 1 (expr.Bin Add (expr.Load (Cell 1)) (expr.Load (Cell 0))) ∷ [] }
 
+-- the one task
 abbrev pub task_of : Form → Task
 task_of f = record {
   name = f.task;
@@ -28,7 +30,8 @@ task_of f = record {
   inputs = int_port f.input 0 ∷ [];
   outputs = int_port f.output f.initial ∷ [];
   locals = [];
-  body = add_input }
+  body = add_input;
+}
 
 -- the period in microseconds
 abbrev pub period_us : Form → ℕ
@@ -42,16 +45,20 @@ invocation_of f = record {
   s = record { 0 = 0 };
   e = record { 0 = period_us f };
   guard = None;
-  args = expr.Load (Sensor 0) ∷ [] }
+  args = expr.Load (Sensor 0) ∷ [];
+}
 
+-- the one mode
 abbrev pub mode_of : Form → Mode
 mode_of f = record {
   name = f.mode;
   period = record { 0 = period_us f };
   invocations = invocation_of f ∷ [];
   updates = [];
-  switches = [] }
+  switches = [];
+}
 
+-- the one module
 abbrev pub module_of : Form → Module
 module_of f = record {
   name = f.module;
@@ -61,7 +68,8 @@ module_of f = record {
   actuators = [];
   tasks = task_of f ∷ [];
   modes = mode_of f ∷ [];
-  start = record { 0 = 0 } }
+  start = record { 0 = 0 };
+}
 
 -- the program that a plain source says
 abbrev pub program_of : Form → Program

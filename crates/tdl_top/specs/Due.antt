@@ -23,11 +23,12 @@ pub record HoldsSource (held : Held) (words : Words) (form : Form) : Type 0 wher
   pub fits : Fits held words 1
   pub plain : IsPlainSource form (file_at held words 1)
 
--- the file at word w is the next to be judged: the source, or the scenario of a plain source
+-- the source is within its limit and plain, whatever its form
 pub record HoldsPlainSource (held : Held) (words : Words) : Type 0 where
   pub form : Form
   pub source : HoldsSource held words form
 
+-- the file at word w is the next to be judged: the source, or the scenario of a plain source
 abbrev pub IsNext : Held → Words → ℕ → Type 0
 IsNext held words w = (w ≡ 1) ⊎ ((w ≡ 3) × HoldsPlainSource held words)
 

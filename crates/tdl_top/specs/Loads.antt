@@ -6,6 +6,7 @@ use Rattle.tdl_top.specs.declared.status.Status.{Status}
 use Rattle.tdl_top.specs.declared.status.Status.TheVariants.{LoadFailed, TooLong, NoMemory}
 use Rattle.tdl_top.specs.Answers.{FilesCall, SinkCall}
 
+-- a call, by what its files hold and their counts
 abbrev pub call_of : Option Held → ℕ → ℕ → Option Counts → Option Counts → FilesCall
 call_of holds faults faults_behind loads loads_behind = record {
   holds = holds;
@@ -23,6 +24,7 @@ LoadSays files name limit at (TooLong w) = (w ≡ at) × IsLonger files.holds na
 LoadSays files name limit at NoMemory = Unit {0}
 LoadSays files name limit at status = ⊥
 
+-- a call, by what a sink holds and its counts
 abbrev pub put_of : Option (List ℕ) → Option (List ℕ) → ℕ → ℕ → SinkCall
 put_of contents contents_behind faults faults_behind = record {
   contents = contents;

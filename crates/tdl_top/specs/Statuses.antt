@@ -4,6 +4,7 @@ use Rattle.tdl_top.specs.declared.status.Status.{Status}
 use Rattle.tdl_top.specs.declared.status.Status.TheVariants.{Ok, Usage, LoadFailed, TooLong, WriteFailed, NoMemory, BadForm}
 use Rattle.tdl_top.specs.Words.{Words, word_at}
 
+-- the exit status
 abbrev pub code_of : Status → ℕ
 code_of Ok = 0
 code_of Usage = 1

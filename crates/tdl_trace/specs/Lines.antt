@@ -15,27 +15,35 @@ Bytes = List ℕ
 abbrev pub or_empty : Option Bytes → Bytes
 or_empty name = unwrap_or name []
 
+-- the names of module m, where it has some
 abbrev pub module_at : Names → ℕ → Option ModuleNames
 module_at names m = find (λ n. n.number.0 == m) names.modules
 
+-- the names of task t of module m, where it has some
 abbrev pub task_at : Names → ℕ → ℕ → Option TaskNames
 task_at names m t = option_and_then (λ n. slice_get n.tasks t) (module_at names m)
 
+-- the name of a node
 abbrev pub node_name : Names → ℕ → Bytes
 node_name names node = or_empty (slice_get names.nodes node)
 
+-- the name of module m
 abbrev pub module_name : Names → ℕ → Bytes
 module_name names m = or_empty (option_map (λ n. n.name) (module_at names m))
 
+-- the name of a mode of module m
 abbrev pub mode_name : Names → ℕ → ℕ → Bytes
 mode_name names m mode = or_empty (option_and_then (λ n. slice_get n.modes mode) (module_at names m))
 
+-- the name of actuator a of module m
 abbrev pub actuator_name : Names → ℕ → ℕ → Bytes
 actuator_name names m a = or_empty (option_map (λ n. n.name) (option_and_then (λ n. slice_get n.actuators a) (module_at names m)))
 
+-- the name of task t of module m
 abbrev pub task_name : Names → ℕ → ℕ → Bytes
 task_name names m t = or_empty (option_map (λ n. n.name) (task_at names m t))
 
+-- the name of output o of task t of module m
 abbrev pub output_name : Names → ℕ → ℕ → ℕ → Bytes
 output_name names m t o = or_empty (option_map (λ n. n.name) (option_and_then (λ n. slice_get n.outputs o) (task_at names m t)))
 

@@ -11,6 +11,7 @@ pub data Shown : Type 0 where
   -- a mode that was entered
   Entered : (at node owner mode : ℕ) → Shown
 
+-- what a row of the program shows
 abbrev pub shown_of : Row → Shown
 shown_of (Port at node owner task output value) = Shown.Committed at.0 node.0 owner.0 task.0 output value
 shown_of (Act at node owner actuator value) = Shown.Updated at.0 node.0 owner.0 actuator value

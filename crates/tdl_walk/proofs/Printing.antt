@@ -20,12 +20,12 @@ pub line_put : (names : Names) (rows : List Shown) (i : ℕ) (a b c : Option (Li
     Appends a b (text_of names (take i rows)) → Appends b c (line_at names rows i) → Appends a c (text_of names (take (i + 1) rows))
 line_put names rows i a b c h g =
     subst (λ (t : List ℕ). Appends a c t) (sym (text_of-next names rows i) ∙ ap (λ n. text_of names (take n rows)) (sym (add-one i)))
-      (appends_more a b c _ _ h g)
+    (appends_more a b c _ _ h g)
 
 -- a line that fails
 pub line_fails : (names : Names) (rows : List Shown) (i : ℕ) (a b c : Option (List ℕ)) →
     Appends a b (text_of names (take i rows)) → AppendsPart b c (line_at names rows i) → AppendsPart a c (text_of names rows)
 line_fails names rows i a b c h g =
     subst (λ (t : List ℕ). AppendsPart a c t)
-      (ap (λ (t : List ℕ). t ++ text_of names (drop (suc i) rows)) (sym (text_of-next names rows i)) ∙ sym (text_of-take names rows (suc i)))
-      (part_wider a c _ (text_of names (drop (suc i) rows)) (part_more a b c _ _ h g))
+    (ap (λ (t : List ℕ). t ++ text_of names (drop (suc i) rows)) (sym (text_of-next names rows i)) ∙ sym (text_of-take names rows (suc i)))
+    (part_wider a c _ (text_of names (drop (suc i) rows)) (part_more a b c _ _ h g))

@@ -41,8 +41,8 @@ pub instant_put : (names : Names) (p : Program) (n : Placement) (course : Course
     Appends a c (text_of names (logical_rows p n course (x + 1)))
 instant_put names p n course x a b c h g =
     subst (λ (t : List ℕ). Appends a c t)
-      (sym (next_text names p n course x) ∙ ap (λ k. text_of names (logical_rows p n course k)) (sym (add-one x)))
-      (appends_more a b c _ _ h g)
+    (sym (next_text names p n course x) ∙ ap (λ k. text_of names (logical_rows p n course k)) (sym (add-one x)))
+    (appends_more a b c _ _ h g)
 
 -- a first part of the rows up to x is one of the rows up to a later instant
 pub part_of_run : (names : Names) (p : Program) (n : Placement) (course : Course) (x h : ℕ) (a c : Option (List ℕ)) → x ≤ h →
@@ -56,7 +56,7 @@ pub instant_fails : (names : Names) (p : Program) (n : Placement) (course : Cour
     AppendsPart a c (text_of names (logical_rows p n course h))
 instant_fails names p n course x h a b c le g k =
     part_of_run names p n course (suc x) h a c le
-      (subst (λ (t : List ℕ). AppendsPart a c t) (sym (next_text names p n course x)) (part_more a b c _ _ g k))
+    (subst (λ (t : List ℕ). AppendsPart a c t) (sym (next_text names p n course x)) (part_more a b c _ _ g k))
 
 -- the line of the only row
 pub one_text : (names : Names) (rows none : List Shown) (row : Shown) → rows ≡ none ++ row ∷ [] → none ≡ [] → text_of names rows ≡ line_of names row

@@ -24,7 +24,8 @@ begin_keeps f senses output input r e g = record {
   state = rw (e, g) (state_at-first f (course_of senses));
   begun = omega arith;
   within = omega (arith, r.worst, r.within);
-  work = (r.worst, omega arith) }
+  work = (r.worst, omega arith);
+}
 
 -- one more microsecond of work
 on_progress : (f : Form) (spent : ℕ) (output input : ℤ) (progress : Progress) → IsProgress f spent output input progress →
@@ -43,7 +44,8 @@ work_keeps f course x p h = record {
   begun = h.begun;
   within = h.within;
   work = subst (λ (spent : ℕ). IsProgress f spent p.output p.input (worked p).progress) (omega (arith, h.begun))
-    (on_progress f (x - p.base) p.output p.input p.progress h.work) }
+      (on_progress f (x - p.base) p.output p.input p.progress h.work);
+}
 
 pub worked_keeps : (f : Form) (course : Course) (x : ℕ) (p q : Processor) → q ≡ worked p → IsAt f course x p → IsBehind f course x q
 worked_keeps f course x p q e h = subst (λ (r : Processor). IsBehind f course x r) (sym e) (work_keeps f course x p h)
@@ -52,20 +54,21 @@ worked_keeps f course x p q e h = subst (λ (r : Processor). IsBehind f course x
 pub rest_keeps : (f : Form) (course : Course) (x : ℕ) (p : Processor) → IsBehind f course x p → suc x - p.base < period_us f → IsAt f course (suc x) p
 rest_keeps f course x p h short = record {
   state = state_at-next f course x _ _ h.state
-    (rests f (suc x) p.base (course (suc x)) p.output p.input
+      (rests f (suc x) p.base (course (suc x)) p.output p.input
       (ne_eqb _ _ (λ e. omega (arith, e, h.begun, short)))
       (ne_eqb _ _ (λ e. omega (arith, e, h.begun))));
   begun = omega (arith, h.begun);
   within = omega (arith, h.begun, short);
-  work = h.work }
+  work = h.work;
+}
 
 pub rest_rows : (f : Form) (course : Course) (x : ℕ) (p : Processor) → IsBehind f course x p → suc x - p.base < period_us f →
     rows_at (program_of f) (one_node (program_of f)) course (suc x) ≡ []
 rest_rows f course x p h short =
     rows_at-next f course x _ _ h.state
-      (no_row f (suc x) p.base (course (suc x)) p.output p.input
-        (ne_eqb _ _ (λ e. omega (arith, e, h.begun, short)))
-        (ne_eqb _ _ (λ e. omega (arith, e, h.begun))))
+    (no_row f (suc x) p.base (course (suc x)) p.output p.input
+    (ne_eqb _ _ (λ e. omega (arith, e, h.begun, short)))
+    (ne_eqb _ _ (λ e. omega (arith, e, h.begun))))
 
 -- the job of a cycle that is over
 done_job : (f : Form) (course : Course) (x : ℕ) (p : Processor) (progress : Progress) → IsBehind f course x p → p.progress ≡ progress →
@@ -78,20 +81,21 @@ pub turn_keeps : (f : Form) (senses : List Sense) (x b : ℕ) (p : Processor) (d
     IsAt f (course_of senses) (suc x) (record { base = b; output = output; input = input; progress = Working f.worst })
 turn_keeps f senses x b p done output input r h long e i o g = record {
   state = rw (i, o, (done_job f (course_of senses) x p (Done done) h e).1, g)
-    (state_at-next f (course_of senses) x _ _ h.state
+      (state_at-next f (course_of senses) x _ _ h.state
       (turns f (suc x) p.base (course_of senses (suc x)) p.output p.input
-        (eq-eqb _ _ (omega (arith, h.begun, h.within, long)))
-        (eq-eqb _ _ (omega arith))));
+      (eq-eqb _ _ (omega (arith, h.begun, h.within, long)))
+      (eq-eqb _ _ (omega arith))));
   begun = omega (arith, i);
   within = omega (arith, i, r.worst, r.within);
-  work = (r.worst, omega (arith, i)) }
+  work = (r.worst, omega (arith, i));
+}
 
 pub turn_rows : (f : Form) (course : Course) (x : ℕ) (p : Processor) (done output : ℤ) → IsBehind f course x p →
     period_us f ≤ suc x - p.base → p.progress ≡ Done done → output ≡ done →
     rows_at (program_of f) (one_node (program_of f)) course (suc x) ≡ Shown.Committed (suc x) 0 0 0 0 output ∷ []
 turn_rows f course x p done output h long e o =
     rw (o, (done_job f course x p (Done done) h e).1)
-      (rows_at-next f course x _ _ h.state
-        (one_row f (suc x) p.base (course (suc x)) p.output p.input
-          (eq-eqb _ _ (omega (arith, h.begun, h.within, long)))
-          (eq-eqb _ _ (omega arith))))
+    (rows_at-next f course x _ _ h.state
+    (one_row f (suc x) p.base (course (suc x)) p.output p.input
+    (eq-eqb _ _ (omega (arith, h.begun, h.within, long)))
+    (eq-eqb _ _ (omega arith))))

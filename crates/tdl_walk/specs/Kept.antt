@@ -40,10 +40,11 @@ pub record Keeps (f : Form) (course : Course) (x spent : ℕ) (p : Processor) : 
   pub within : x < p.base + period_us f
   pub work : IsProgress f spent p.output p.input p.progress
 
--- before the microsecond that begins at x, and behind it
+-- before the microsecond that begins at x
 abbrev pub IsAt : Form → Course → ℕ → Processor → Type 0
 IsAt f course x p = Keeps f course x (x - p.base) p
 
+-- behind the microsecond that begins at x
 abbrev pub IsBehind : Form → Course → ℕ → Processor → Type 0
 IsBehind f course x p = Keeps f course x (suc x - p.base) p
 
@@ -52,6 +53,7 @@ abbrev pub worked_on : ℤ → ℤ → Progress → Progress
 worked_on output input (Working left) = if nat_le left 1 then Done (sum_of output input) else Working (left - 1)
 worked_on output input (Done value) = Done value
 
+-- the processor after one microsecond of work
 abbrev pub worked : Processor → Processor
 worked p = record p { progress = worked_on p.output p.input p.progress }
 

@@ -14,8 +14,10 @@ plain_state f base output input = record {
   tasks = record {
     text = task_of f;
     outputs = output ∷ [];
-    active = Some (record { mode = 0; invocation = 1; inputs = input ∷ [] }) } ∷ [];
-  actuators = [] } ∷ []
+    active = Some (record { mode = 0; invocation = 1; inputs = input ∷ [] });
+  } ∷ [];
+  actuators = [];
+} ∷ []
 
 -- the output that a job makes
 abbrev pub sum_of : ℤ → ℤ → ℤ

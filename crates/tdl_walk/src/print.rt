@@ -8,7 +8,13 @@ use tdl_io::Sink;
 use tdl_trace::{Names, Rows, print_row};
 
 // Puts the line of row `i` in one piece.
-fn put_line<O: Sink>(alloc: Global, rows: &Rows, i: usize, names: &Names, out: &mut O) -> Result<(), RunFault>
+fn put_line<O: Sink>(
+    alloc: Global,
+    rows: &Rows,
+    i: usize,
+    names: &Names,
+    out: &mut O,
+) -> Result<(), RunFault>
     requires { i < length rows.now }
     ensures ok { OnOk result (Appends (O.contents out.old) (O.contents out.new) (line_at names.now rows.now i)) }
     ensures err { OnErr result (AppendsPart (O.contents out.old) (O.contents out.new) (line_at names.now rows.now i)) }
@@ -22,7 +28,12 @@ fn put_line<O: Sink>(alloc: Global, rows: &Rows, i: usize, names: &Names, out: &
 }
 
 /// Puts the lines of the rows, each in one piece. After a fault the sink holds a first part of them.
-pub fn print_rows<O: Sink>(alloc: Global, rows: &Rows, names: &Names, out: &mut O) -> Result<(), RunFault>
+pub fn print_rows<O: Sink>(
+    alloc: Global,
+    rows: &Rows,
+    names: &Names,
+    out: &mut O,
+) -> Result<(), RunFault>
     ensures ok { OnOk result (Appends (O.contents out.old) (O.contents out.new) (text_of names.now rows.now)) }
     ensures err { OnErr result (AppendsPart (O.contents out.old) (O.contents out.new) (text_of names.now rows.now)) }
     ensures later { O.faults out.old ≤ O.faults out.new }

@@ -8,14 +8,16 @@ use Rattle.tdl_walk.proofs.print.print_rows.Goals as goal
 pub loop-i-init : goal.loop-i-init
 loop-i-init g c = record {
   held = rw (text_of-none c.args.names.now) (appends_none _);
-  later = omega arith }
+  later = omega arith;
+}
 
 pub returns-in_err-put_line-clause-err : goal.returns-in_err-put_line-clause-err
 returns-in_err-put_line-clause-err g c =
     on_err c.from_residual.result
-      (line_fails c.args.names.now c.args.rows.now c.loop-i.i _ _ _ c.loop-i.invariant.held c.in_err-put_line.ensures.err)
+    (line_fails c.args.names.now c.args.rows.now c.loop-i.i _ _ _ c.loop-i.invariant.held c.in_err-put_line.ensures.err)
 
 pub loop-i-preserved : goal.loop-i-preserved
 loop-i-preserved g c = record {
   held = line_put c.args.names.now c.args.rows.now c.loop-i.i (g.O.Sink.contents c.args.out.now) (g.O.Sink.contents c.loop-i.out) (g.O.Sink.contents c.put_line.new.out) c.loop-i.invariant.held c.in_ok-put_line.ensures.ok;
-  later = omega (arith, c.loop-i.invariant.later, c.put_line.ensures.later) }
+  later = omega (arith, c.loop-i.invariant.later, c.put_line.ensures.later);
+}

@@ -13,12 +13,12 @@ pub returns-clause-ok : goal.returns-clause-ok
 returns-clause-ok g c =
     let fits : FitsSigned w64 c.in-Some.value = search rules in
     subst (λ (t : List ℕ). OnOk c.print_one.result (Appends (g.O.Sink.contents c.args.out.now) (g.O.Sink.contents c.print_one.new.out) t))
-      (commit_text c.args.names.now _ c.args.from _ c.in-Some.value _ c.in-Some.ensures.rows (add-one c.args.from) (to_z-of_z w64 c.in-Some.value fits))
-      c.print_one.ensures.ok
+    (commit_text c.args.names.now _ c.args.from _ c.in-Some.value _ c.in-Some.ensures.rows (add-one c.args.from) (to_z-of_z w64 c.in-Some.value fits))
+    c.print_one.ensures.ok
 
 pub returns-clause-err : goal.returns-clause-err
 returns-clause-err g c =
     let fits : FitsSigned w64 c.in-Some.value = search rules in
     subst (λ (t : List ℕ). OnErr c.print_one.result (AppendsPart (g.O.Sink.contents c.args.out.now) (g.O.Sink.contents c.print_one.new.out) t))
-      (commit_text c.args.names.now _ c.args.from _ c.in-Some.value _ c.in-Some.ensures.rows (add-one c.args.from) (to_z-of_z w64 c.in-Some.value fits))
-      c.print_one.ensures.err
+    (commit_text c.args.names.now _ c.args.from _ c.in-Some.value _ c.in-Some.ensures.rows (add-one c.args.from) (to_z-of_z w64 c.in-Some.value fits))
+    c.print_one.ensures.err

@@ -12,5 +12,6 @@ abbrev pub invariant-loop-from : goal.invariant-loop-from
 invariant-loop-from g l = record {
   at : IsAt l.form (course_of l.senses) l.from l.processor;
   held : Appends (g.O.Sink.contents l.fn.out) (g.O.Sink.contents l.out)
-    (text_of l.names (logical_rows (program_of l.form) (one_node (program_of l.form)) (course_of l.senses) l.from));
-  later : g.O.Sink.faults l.fn.out ≤ g.O.Sink.faults l.out }
+      (text_of l.names (logical_rows (program_of l.form) (one_node (program_of l.form)) (course_of l.senses) l.from));
+  later : g.O.Sink.faults l.fn.out ≤ g.O.Sink.faults l.out;
+}
