@@ -1,4 +1,4 @@
-use Rattle.std.proofs.Common.{◌≡◌, ℕ, ℤ, List, [], ◌∷◌, map, Option, Some, None, refl, ap}
+use Rattle.std.proofs.Common.{◌≡◌, ℕ, ℤ, List, map, ap}
 use Rattle.tdl_base.specs.declared.numbers.Place.{Place}
 use Rattle.tdl_base.specs.declared.arithmetic.BinOp.{BinOp}
 use Rattle.tdl_base.specs.declared.arithmetic.UnOp.{UnOp}
@@ -7,9 +7,8 @@ use Rattle.tdl_body.specs.declared.tree.Expr.{Expr}
 use Rattle.tdl_body.specs.declared.tree.Expr.TheVariants as expr
 use Rattle.tdl_body.specs.declared.tree.Stmt.{Stmt}
 use Rattle.tdl_body.specs.declared.tree.Stmt.TheVariants as stmt
-use Rattle.tdl_body.specs.declared.tree.Body.{Body}
-use Rattle.tdl_body.specs.declared.tree.Stmt.TheFolds.{fold-roll-Body, fold-roll-Stmt, fold-Stmt, fold-Body, map-Stmt}
-use Rattle.tdl_body.specs.declared.tree.Stmt.TheOpen.{Stmt-F, Body-F}
+use Rattle.tdl_body.specs.declared.tree.Stmt.TheFolds.{fold-roll-Body, fold-roll-Stmt, fold-Stmt}
+use Rattle.tdl_body.specs.declared.tree.Stmt.TheOpen.{Stmt-F}
 use Rattle.tdl_body.specs.declared.tree.Stmt.TheViews.{roll-Body, roll-Stmt}
 use Rattle.tdl_body.specs.declared.tree.Expr.TheOpen.{Expr-F}
 use Rattle.tdl_body.specs.declared.tree.Expr.TheViews.{roll-Expr}

@@ -1,4 +1,4 @@
-use Rattle.std.specs.Prelude.{ℕ, ℤ, pos, Bool, true, Option, Some, None}
+use Rattle.std.specs.Prelude.{ℕ, ℤ, Bool, true, Option, Some, None}
 use Rattle.tdl_base.specs.declared.numbers.PortKey.{PortKey}
 use Rattle.tdl_base.specs.declared.numbers.Place.{Place}
 use Rattle.tdl_base.specs.declared.numbers.Place.TheVariants.{Sensor, Port, Cell}

@@ -1,5 +1,4 @@
-use Rattle.std.specs.Prelude.{ℕ, zero, suc, Bool, List, [], ◌∷◌, map, Option, Some, None, codes, if◌then◌else◌}
-use Rattle.tdl_base.specs.declared.numbers.ModuleId.{ModuleId}
+use Rattle.std.specs.Prelude.{ℕ, suc, List, [], ◌∷◌, map, None, codes, if◌then◌else◌}
 use Rattle.tdl_mode.specs.declared.program.Program.{Program}
 use Rattle.tdl_mode.specs.declared.program.Module.{Module}
 use Rattle.tdl_mode.specs.declared.program.Task.{Task}

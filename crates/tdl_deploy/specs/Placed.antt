@@ -1,13 +1,11 @@
-use Rattle.std.specs.Prelude.{ℕ, ◌+◌, ◌*◌, ◌==◌, Bool, true, false, not, ◌&&◌, ◌||◌, List, [], ◌∷◌, Option, Some, None, option_map, unwrap_or, slice_get, map, sum}
+use Rattle.std.specs.Prelude.{ℕ, ◌+◌, ◌*◌, ◌==◌, Bool, not, ◌&&◌, ◌||◌, List, [], option_map, unwrap_or, slice_get, map, sum}
 use Rattle.std.specs.List.{list_any}
 use Rattle.tdl_base.specs.declared.numbers.ModuleId.{ModuleId}
 use Rattle.tdl_base.specs.Numbers.{width_of}
 use Rattle.tdl_mode.specs.declared.program.Program.{Program}
-use Rattle.tdl_mode.specs.declared.program.Module.{Module}
 use Rattle.tdl_mode.specs.declared.program.Task.{Task}
 use Rattle.tdl_deploy.specs.declared.placement.Placement.{Placement}
 use Rattle.tdl_deploy.specs.declared.placement.PlacedNode.{PlacedNode}
-use Rattle.tdl_deploy.specs.declared.placement.BusCost.{BusCost}
 
 -- m is one of these modules
 abbrev pub is_among : ℕ → List ModuleId → Bool

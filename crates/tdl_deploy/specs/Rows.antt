@@ -1,6 +1,4 @@
-use Rattle.std.specs.Prelude.{ℕ, zero, suc, ℤ, ◌==◌, Bool, true, false, not, List, [], ◌∷◌, ◌++◌, map, Option, Some, None, option_map, if◌then◌else◌}
-use Rattle.std.specs.List.{flat_map}
-use Rattle.tdl_base.specs.declared.numbers.PortKey.{PortKey}
+use Rattle.std.specs.Prelude.{ℕ, zero, suc, ℤ, ◌==◌, List, [], ◌∷◌, ◌++◌, map, Option, Some, None, option_map, if◌then◌else◌}
 use Rattle.tdl_body.specs.Values.{Look}
 use Rattle.tdl_mode.specs.declared.program.Program.{Program}
 use Rattle.tdl_mode.specs.States.{TaskState, ModuleState, State, Sensed, Course, numbered}
@@ -8,7 +6,6 @@ use Rattle.tdl_mode.specs.Phases.{has_ended, task_after, phase_one, update_value
 use Rattle.tdl_mode.specs.Instants.{look_in, logical, state_at}
 use Rattle.tdl_trace.specs.Shown.{Shown}
 use Rattle.tdl_deploy.specs.declared.placement.Placement.{Placement}
-use Rattle.tdl_deploy.specs.declared.placement.PlacedNode.{PlacedNode}
 use Rattle.tdl_deploy.specs.Placed.{hosts, sees}
 
 -- the items of lists, one list after the other

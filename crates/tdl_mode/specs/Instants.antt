@@ -1,4 +1,4 @@
-use Rattle.std.specs.Prelude.{ℕ, zero, suc, ℤ, List, map, Option, None}
+use Rattle.std.specs.Prelude.{ℕ, zero, suc, ℤ, map, None}
 use Rattle.tdl_base.specs.declared.numbers.PortKey.{PortKey}
 use Rattle.tdl_body.specs.Values.{Look}
 use Rattle.tdl_mode.specs.declared.program.Program.{Program}

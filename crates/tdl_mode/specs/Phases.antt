@@ -1,16 +1,13 @@
-use Rattle.std.specs.Prelude.{ℕ, zero, suc, ◌+◌, ℤ, pos, Bool, true, false, not, ◌&&◌, List, [], ◌∷◌, map, Option, Some, None, option_map, unwrap_or, option_and_then, slice_get, slice_index_or, if◌then◌else◌, ◌==◌, find}
+use Rattle.std.specs.Prelude.{ℕ, suc, ◌+◌, ℤ, Bool, false, ◌&&◌, List, [], ◌∷◌, map, Option, Some, None, option_map, unwrap_or, slice_get, if◌then◌else◌, ◌==◌, find}
 use Rattle.tdl_base.specs.declared.kinds.Kind.{Kind}
 use Rattle.tdl_base.specs.declared.kinds.Kind.TheVariants.{Long}
-use Rattle.tdl_base.specs.declared.numbers.PortKey.{PortKey}
 use Rattle.tdl_base.specs.Numbers.{narrowed}
 use Rattle.tdl_body.specs.declared.tree.Expr.{Expr}
 use Rattle.tdl_body.specs.Values.{Look, value_of, holds}
-use Rattle.tdl_mode.specs.declared.program.PortDef.{PortDef}
-use Rattle.tdl_mode.specs.declared.program.Mode.{Mode}
 use Rattle.tdl_mode.specs.declared.program.Invocation.{Invocation}
 use Rattle.tdl_mode.specs.declared.program.Update.{Update}
 use Rattle.tdl_mode.specs.declared.program.Switch.{Switch}
-use Rattle.tdl_mode.specs.States.{Job, TaskState, ModuleState, Sensed, numbered, changed_at, result_of, present, invocation_of, invocations_now, look_of, kinds_of}
+use Rattle.tdl_mode.specs.States.{Job, TaskState, ModuleState, numbered, changed_at, result_of, present, invocation_of, invocations_now, kinds_of}
 
 -- 1. Termination: each invocation of the present mode that ends at x and whose job is active
 

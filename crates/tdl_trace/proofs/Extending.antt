@@ -1,5 +1,5 @@
 -- Bytes to which more are put.
-use Rattle.std.proofs.Common.{◌≡◌, ◌≤◌, ℕ, List, length, take, ap, sym, ◌∙◌, arith}
+use Rattle.std.proofs.Common.{◌≤◌, ℕ, List, length, take, ap, sym, ◌∙◌, arith}
 use Rattle.std.proofs.lemmas.List.{take-take, length-take}
 use Rattle.tdl_trace.specs.Extended.{Extends}
 

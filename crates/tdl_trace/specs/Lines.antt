@@ -1,10 +1,9 @@
-use Rattle.std.specs.Prelude.{ℕ, ℤ, List, [], ◌∷◌, ◌++◌, Option, Some, None, option_map, option_and_then, unwrap_or, slice_get, find, codes, ◌==◌}
+use Rattle.std.specs.Prelude.{ℕ, ℤ, List, [], ◌++◌, Option, option_map, option_and_then, unwrap_or, slice_get, find, codes, ◌==◌}
 use Rattle.std.specs.List.{flat_map}
 use Rattle.std.specs.Fmt.{decimal, signed_decimal}
 use Rattle.tdl_trace.specs.declared.names.Names.{Names}
 use Rattle.tdl_trace.specs.declared.names.ModuleNames.{ModuleNames}
 use Rattle.tdl_trace.specs.declared.names.TaskNames.{TaskNames}
-use Rattle.tdl_trace.specs.declared.names.Named.{Named}
 use Rattle.tdl_trace.specs.Shown.{Shown}
 
 -- a text is a list of bytes
