@@ -1,4 +1,4 @@
-use Rattle.std.specs.Prelude.{ℕ, ℤ, pos, ◌*◌, true, List, [], ◌∷◌, None}
+use Rattle.std.specs.Prelude.{ℕ, pos, ◌*◌, true, List, [], ◌∷◌, None}
 use Rattle.tdl_base.specs.declared.kinds.Kind.TheVariants.{Int}
 use Rattle.tdl_base.specs.declared.numbers.Place.TheVariants.{Sensor, Cell}
 use Rattle.tdl_base.specs.declared.arithmetic.BinOp.TheVariants.{Add}

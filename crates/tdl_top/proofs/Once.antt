@@ -1,9 +1,9 @@
 -- One answer at most is due, and an answer that is no fault is.
-use Rattle.std.proofs.Common.{◌≡◌, ◌≤◌, ◌<◌, ℕ, List, length, true, false, refl, ap, sym, ◌∙◌, subst, arith, inl, inr, ◌⊎◌}
+use Rattle.std.proofs.Common.{◌≡◌, ◌<◌, ℕ, List, length, true, false, refl, ap, sym, ◌∙◌, subst, arith, inl, inr, ◌⊎◌}
 use Rattle.std.specs.declared.option.Option.{Option}
-use Rattle.std.specs.declared.option.Option.TheVariants.{Some, None}
+use Rattle.std.specs.declared.option.Option.TheVariants.{Some}
 use Rattle.std.proofs.lemmas.Bool.{true≢false}
-use Rattle.tdl_io.specs.Outside.{Held, file_in}
+use Rattle.tdl_io.specs.Outside.{Held}
 use Rattle.tdl_plain.specs.declared.form.Form.{Form}
 use Rattle.tdl_plain.specs.PlainSource.{IsPlainSource}
 use Rattle.tdl_plain.proofs.Unique.{source_unique}
@@ -11,9 +11,9 @@ use Rattle.tdl_scen.specs.declared.entries.Scenario.{Scenario}
 use Rattle.tdl_scen.specs.PlainScenario.{IsPlainScenario}
 use Rattle.tdl_top.specs.declared.status.Status.{Status}
 use Rattle.tdl_top.specs.declared.status.Status.TheVariants.{Ok, Usage, LoadFailed, TooLong, WriteFailed, NoMemory, BadForm}
-use Rattle.tdl_top.specs.Words.{Words, word_at, is_run}
+use Rattle.tdl_top.specs.Words.{Words, is_run}
 use Rattle.tdl_top.specs.Answers.{FilesCall, SinkCall, limit_at, IsRead, HasSource, IsAskedFor, IsTooLong, IsOfNoForm, PrintsRun, Says}
-use Rattle.tdl_top.specs.Due.{file_at, Fits, HoldsSource, HoldsPlainSource, IsNext, HoldsNoSource, HoldsNoScenario, HoldsInputs, IsDue, IsFault}
+use Rattle.tdl_top.specs.Due.{file_at, Fits, HoldsSource, IsNext, HoldsNoSource, HoldsNoScenario, HoldsInputs, IsDue, IsFault}
 
 -- ---- from what was read to what the files hold
 

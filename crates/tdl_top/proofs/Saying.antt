@@ -1,14 +1,14 @@
 -- What an answer says, from what its inputs say.
-use Rattle.std.proofs.Common.{◌≡◌, ◌≤◌, ◌+◌, ℕ, List, true, false, subst, sym, arith, inl, inr, refl, ◌∙◌}
+use Rattle.std.proofs.Common.{◌≡◌, ◌≤◌, ℕ, List, true, false, subst, sym, arith, inl, inr, refl, ◌∙◌}
 use Rattle.std.specs.declared.option.Option.{Option}
 use Rattle.std.specs.declared.option.Option.TheVariants.{Some, None}
-use Rattle.tdl_io.specs.Outside.{Held, Counts, Rose, HasNamedCause, NoCountFalls}
+use Rattle.tdl_io.specs.Outside.{Held, Counts, HasNamedCause, NoCountFalls}
 use Rattle.tdl_top.specs.declared.status.Status.{Status}
 use Rattle.tdl_top.specs.declared.status.Status.TheVariants.{Ok, Usage, LoadFailed, TooLong, WriteFailed, NoMemory, BadForm}
 use Rattle.tdl_top.specs.Words.{Words, is_run}
 use Rattle.std.specs.Prelude.{◌≢◌, ◌↔◌, ◌⊎◌}
 use Rattle.std.proofs.lemmas.Bool.{true≢false}
-use Rattle.tdl_top.specs.Answers.{FilesCall, SinkCall, IsLoadFault, IsTooLong, IsOfNoForm, InputSays, IsSilent, IsRefusal, PrintsRun, PrintsPart, PrintsLess, Says}
+use Rattle.tdl_top.specs.Answers.{FilesCall, SinkCall, InputSays, IsSilent, IsRefusal, Says}
 use Rattle.tdl_top.specs.Loads.{call_of}
 
 -- a count that rose behind a call rose behind an earlier one

@@ -1,5 +1,5 @@
 -- When each answer of a call comes, and what it leaves.
-use Rattle.std.specs.Prelude.{◌≡◌, ◌≤◌, ◌<◌, ◌==◌, ℕ, List, length, false, true, ◌⊎◌, if◌then◌else◌}
+use Rattle.std.specs.Prelude.{◌≡◌, ◌≤◌, ◌==◌, ℕ, List, length, false, true, ◌⊎◌, if◌then◌else◌}
 use Rattle.std.specs.declared.option.Option.{Option}
 use Rattle.tdl_base.specs.declared.limits.TheConstants.{SOURCE_BYTES, SCENARIO_BYTES}
 use Rattle.tdl_io.specs.Outside.{Held, Counts, Reads, IsLonger, Rose, HasNamedCause, Appends, AppendsPart}

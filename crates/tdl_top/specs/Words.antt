@@ -1,5 +1,5 @@
 -- The words of a call.
-use Rattle.std.specs.Prelude.{String, ℕ, Bool, true, false, not, ◌&&◌, ◌==◌, List, [], ◌∷◌, map, slice_get, unwrap_or, codes, bytes_eq}
+use Rattle.std.specs.Prelude.{String, ℕ, Bool, false, not, ◌&&◌, ◌==◌, List, [], ◌∷◌, map, slice_get, unwrap_or, codes, bytes_eq}
 use Rattle.std.specs.String.{string_bytes}
 use Rattle.std.specs.declared.alloc.Global.{Global}
 

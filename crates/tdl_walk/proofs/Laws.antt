@@ -1,4 +1,4 @@
-use Rattle.std.proofs.Common.{append-nil, suc, ◌≡◌, ℕ, ℤ, pos, ◌+◌, ◌*◌, ◌+ℤ◌, true, false, List, [], ◌∷◌, ◌++◌, map, Option, Some, None, refl, ap, eqb, take, drop, ◌∙◌}
+use Rattle.std.proofs.Common.{append-nil, suc, ◌≡◌, ℕ, ℤ, pos, ◌+◌, ◌+ℤ◌, true, false, List, [], ◌∷◌, ◌++◌, refl, ap, eqb, take, drop, ◌∙◌}
 use Rattle.tdl_base.specs.declared.kinds.Kind.TheVariants.{Int}
 use Rattle.tdl_base.specs.declared.numbers.Place.TheVariants.{Sensor, Cell}
 use Rattle.tdl_base.specs.declared.arithmetic.BinOp.TheVariants.{Add}
@@ -16,7 +16,7 @@ use Rattle.tdl_deploy.specs.Rows.{rows_at, node_rows, first_rows, for_nodes}
 use Rattle.tdl_deploy.specs.Named.{one_node}
 use Rattle.tdl_deploy.specs.declared.placement.Placement.{Placement}
 use Rattle.tdl_plain.specs.declared.form.Form.{Form}
-use Rattle.tdl_plain.specs.PlainProgram.{task_of, module_of, program_of, period_us, add_input}
+use Rattle.tdl_plain.specs.PlainProgram.{task_of, program_of, period_us, add_input}
 use Rattle.tdl_walk.specs.PlainState.{plain_state, sum_of}
 
 -- the sum of the cells 1 and 0

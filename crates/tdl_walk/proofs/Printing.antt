@@ -1,5 +1,5 @@
 -- What a sink holds while the lines of rows are put into it.
-use Rattle.std.proofs.Common.{◌≡◌, ℕ, suc, ◌+◌, List, ◌++◌, take, drop, Option, refl, ap, sym, ◌∙◌, subst, add-one, append_assoc}
+use Rattle.std.proofs.Common.{ℕ, suc, ◌+◌, List, ◌++◌, take, drop, Option, ap, sym, ◌∙◌, subst, add-one}
 use Rattle.std.specs.declared.result.Result.{Result}
 use Rattle.std.specs.declared.result.Result.TheVariants.{Ok, Err}
 use Rattle.std.specs.Result.{OnErr}

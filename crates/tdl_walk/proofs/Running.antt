@@ -1,5 +1,5 @@
 -- What a sink holds while a run is printed, instant by instant.
-use Rattle.std.proofs.Common.{◌≡◌, ◌≤◌, ℕ, ℤ, Some, zero, suc, ◌+◌, ◌-◌, List, [], ◌∷◌, ◌++◌, Option, refl, ap, sym, ◌∙◌, subst, add-one, append-nil, append_assoc, arith}
+use Rattle.std.proofs.Common.{◌≡◌, ◌≤◌, ℕ, ℤ, Some, zero, suc, ◌+◌, ◌-◌, List, [], ◌∷◌, ◌++◌, Option, ap, sym, ◌∙◌, subst, add-one, append-nil, append_assoc, arith}
 use Rattle.tdl_io.specs.Outside.{Appends, AppendsPart}
 use Rattle.tdl_mode.specs.declared.program.Program.{Program}
 use Rattle.tdl_mode.specs.States.{Course}

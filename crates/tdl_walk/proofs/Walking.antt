@@ -1,8 +1,7 @@
-use Rattle.std.proofs.Common.{◌≡◌, ◌<◌, ◌≤◌, ◌+◌, ◌-◌, ◌*◌, ℕ, suc, ℤ, pos, Bool, true, false, List, [], ◌∷◌, refl, ap, sym, ◌∙◌, arith, eqb, nat_le, subst}
+use Rattle.std.proofs.Common.{◌≡◌, ◌<◌, ◌≤◌, ◌-◌, ℕ, suc, ℤ, pos, Bool, true, false, List, [], ◌∷◌, refl, sym, arith, nat_le, subst}
 use Rattle.std.proofs.lemmas.Bool.{ne_eqb, eq-eqb}
 use Rattle.std.proofs.lemmas.Bool.Decides.{nat_tests}
 use Rattle.tdl_mode.specs.States.{Course}
-use Rattle.tdl_mode.specs.Instants.{state_at}
 use Rattle.tdl_trace.specs.Shown.{Shown}
 use Rattle.tdl_deploy.specs.Rows.{rows_at}
 use Rattle.tdl_deploy.specs.Named.{one_node}
@@ -13,9 +12,8 @@ use Rattle.tdl_plain.specs.PlainProgram.{program_of, period_us}
 use Rattle.tdl_walk.specs.declared.processor.Processor.{Processor}
 use Rattle.tdl_walk.specs.declared.processor.Progress.{Progress}
 use Rattle.tdl_walk.specs.declared.processor.Progress.TheVariants.{Working, Done}
-use Rattle.tdl_walk.specs.PlainState.{plain_state, sum_of}
-use Rattle.tdl_walk.specs.Kept.{IsRunnable, IsProgress, Keeps, IsAt, IsBehind, input_at, worked, worked_on}
-use Rattle.tdl_walk.proofs.Laws.{state_at-first, state_at-next, rows_at-first, rows_at-next, rests, turns, no_row, one_row}
+use Rattle.tdl_walk.specs.Kept.{IsRunnable, IsProgress, IsAt, IsBehind, input_at, worked, worked_on}
+use Rattle.tdl_walk.proofs.Laws.{state_at-first, state_at-next, rows_at-next, rests, turns, no_row, one_row}
 
 -- the processor that begins keeps the state of instant 0
 pub begin_keeps : (f : Form) (senses : List Sense) (output input : ℤ) → IsRunnable f → output ≡ pos f.initial → input ≡ input_at senses 0 →

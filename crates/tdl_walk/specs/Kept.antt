@@ -1,5 +1,5 @@
 -- The walk of a plain program's processor, and the logical state that it keeps.
-use Rattle.std.specs.Prelude.{◌≡◌, ◌<◌, ◌≤◌, ◌+◌, ◌-◌, nat_le, ℕ, zero, suc, ℤ, pos, List, [], ◌∷◌, Option, Some, None, if◌then◌else◌}
+use Rattle.std.specs.Prelude.{◌≡◌, ◌<◌, ◌≤◌, ◌+◌, ◌-◌, nat_le, ℕ, suc, ℤ, List, [], ◌∷◌, Option, Some, None, if◌then◌else◌}
 use Rattle.tdl_base.specs.declared.kinds.Kind.TheVariants.{Int}
 use Rattle.tdl_base.specs.Numbers.{narrowed}
 use Rattle.tdl_mode.specs.States.{Course}

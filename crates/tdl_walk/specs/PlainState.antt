@@ -1,7 +1,7 @@
-use Rattle.std.specs.Prelude.{ℕ, ℤ, pos, ◌+ℤ◌, List, [], ◌∷◌, Some}
+use Rattle.std.specs.Prelude.{ℕ, ℤ, ◌+ℤ◌, [], ◌∷◌, Some}
 use Rattle.tdl_base.specs.declared.kinds.Kind.TheVariants.{Int}
 use Rattle.tdl_base.specs.Numbers.{narrowed, wrapped}
-use Rattle.tdl_mode.specs.States.{Job, TaskState, ModuleState, State}
+use Rattle.tdl_mode.specs.States.{State}
 use Rattle.tdl_plain.specs.declared.form.Form.{Form}
 use Rattle.tdl_plain.specs.PlainProgram.{task_of, module_of}
 

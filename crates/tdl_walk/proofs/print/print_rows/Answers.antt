@@ -1,5 +1,4 @@
-use Rattle.std.proofs.Common.{◌≤◌, arith, subst, sym}
-use Rattle.tdl_io.specs.Outside.{Appends}
+use Rattle.std.proofs.Common.{arith}
 use Rattle.tdl_trace.proofs.Texts.{text_of-none}
 use Rattle.tdl_walk.proofs.Appending.{appends_none}
 use Rattle.tdl_walk.proofs.Printing.{on_err, line_put, line_fails}

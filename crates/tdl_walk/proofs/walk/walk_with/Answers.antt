@@ -1,4 +1,4 @@
-use Rattle.std.proofs.Common.{List, ℕ, suc, subst, sym, arith, add-one}
+use Rattle.std.proofs.Common.{List, ℕ, subst, sym, arith, add-one}
 use Rattle.tdl_io.specs.Outside.{Appends, AppendsPart}
 use Rattle.tdl_scen.specs.Scenario.{course_of}
 use Rattle.tdl_deploy.specs.Named.{one_node}
