@@ -2,5 +2,7 @@
 #![tactic(auto)]
 
 mod placement;
+mod schedule;
 
 pub use placement::{BusCost, PlacedNode, Placement};
+pub use schedule::{Resource, Schedule, Window};

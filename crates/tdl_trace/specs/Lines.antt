@@ -1,7 +1,9 @@
-use Rattle.std.specs.Prelude.{ℕ, ℤ, List, [], ◌++◌, Option, option_map, option_and_then, unwrap_or, slice_get, find, codes, ◌==◌}
+use Rattle.std.specs.Prelude.{ℕ, ◌+◌, ◌/◌, ◌%◌, nat_lt, if◌then◌else◌, ℤ, List, [], ◌∷◌, ◌++◌, Option, option_map, option_and_then, unwrap_or, slice_get, find, codes, ◌==◌}
 use Rattle.std.specs.List.{flat_map}
 use Rattle.std.specs.Fmt.{decimal, signed_decimal}
 use Rattle.tdl_trace.specs.declared.names.Names.{Names}
+use Rattle.tdl_trace.specs.declared.why.Why.{Why}
+use Rattle.tdl_trace.specs.declared.why.Why.TheVariants.{Late, Busy, Clash, Budget, Lost}
 use Rattle.tdl_trace.specs.declared.names.ModuleNames.{ModuleNames}
 use Rattle.tdl_trace.specs.declared.names.TaskNames.{TaskNames}
 use Rattle.tdl_trace.specs.Shown.{Shown}
@@ -46,6 +48,45 @@ task_name names m t = or_empty (option_map (λ n. n.name) (task_at names m t))
 abbrev pub output_name : Names → ℕ → ℕ → ℕ → Bytes
 output_name names m t o = or_empty (option_map (λ n. n.name) (option_and_then (λ n. slice_get n.outputs o) (task_at names m t)))
 
+-- the name of sensor k of module m
+abbrev pub sensor_name : Names → ℕ → ℕ → Bytes
+sensor_name names m k =
+    or_empty (option_map (λ n. n.name) (option_and_then (λ n. slice_get n.sensors k) (module_at names m)))
+
+-- why a run ends
+abbrev pub why_name : Why → Bytes
+why_name Late = codes "Late"
+why_name Busy = codes "Busy"
+why_name Clash = codes "Clash"
+why_name Budget = codes "Budget"
+why_name Lost = codes "Lost"
+
+-- a number behind a space
+abbrev pub operand : ℕ → Bytes
+operand n = codes " " ++ decimal n
+
+-- the text of an instruction, from its opcode and its operands
+abbrev pub instruction_text : ℕ → ℕ → ℕ → Bytes
+instruction_text op a b =
+    if op == 0 then codes "return"
+    else if op == 1 then codes "call" ++ operand a
+    else if op == 2 then codes "release" ++ operand a
+    else if op == 3 then codes "end" ++ operand a
+    else if op == 4 then codes "take" ++ operand a
+    else if op == 5 then codes "mode" ++ operand a
+    else if op == 6 then codes "if" ++ operand a ++ operand b
+    else if op == 7 then codes "jump" ++ operand a
+    else codes "future" ++ operand a ++ operand b
+
+-- a digit of a number below 16, in lower case
+abbrev pub hex_digit : ℕ → ℕ
+hex_digit n = if nat_lt n 10 then 48 + n else 87 + n
+
+-- two digits for each byte
+abbrev pub hex_of : List ℕ → Bytes
+hex_of [] = []
+hex_of (b ∷ bs) = hex_digit (b / 16) ∷ hex_digit (b % 16) ∷ hex_of bs
+
 -- how a line begins: the instant, the node and what the row is
 abbrev pub head_of : Names → ℕ → ℕ → Bytes → Bytes
 head_of names at node word = decimal at ++ codes " " ++ node_name names node ++ word
@@ -62,6 +103,16 @@ line_of names (Shown.Updated at node m a v) =
     head_of names at node (codes " act ") ++ module_name names m ++ codes "." ++ actuator_name names m a ++ value_end v
 line_of names (Shown.Entered at node m mode) =
     head_of names at node (codes " mode ") ++ module_name names m ++ codes " " ++ mode_name names m mode ++ codes "\n"
+
+line_of names (Shown.Sampled at node m k v) =
+    head_of names at node (codes " sense ") ++ module_name names m ++ codes "." ++ sensor_name names m k ++ value_end v
+line_of names (Shown.Trapped at node why) = head_of names at node (codes " trap ") ++ why_name why ++ codes "\n"
+line_of names (Shown.Stepped at node m block index op a b) =
+    head_of names at node (codes " step ") ++ module_name names m ++ operand block ++ operand index ++ codes " " ++ instruction_text op a b ++ codes "\n"
+line_of names (Shown.Sent at node m mode invocation frame) =
+    head_of names at node (codes " send ") ++ module_name names m ++ codes " " ++ mode_name names m mode ++ operand invocation ++ codes " " ++ hex_of frame ++ codes "\n"
+line_of names (Shown.Ran at node m t from) =
+    head_of names at node (codes " ran ") ++ module_name names m ++ codes "." ++ task_name names m t ++ operand from ++ codes "\n"
 
 -- the lines of rows, in order
 unfoldable pub text_of : Names → List Shown → Bytes

@@ -1,5 +1,6 @@
-use Rattle.std.specs.Prelude.{ℕ, ℤ}
+use Rattle.std.specs.Prelude.{ℕ, ℤ, List}
 use Rattle.tdl_trace.specs.declared.row.Row.{Row}
+use Rattle.tdl_trace.specs.declared.why.Why.{Why}
 use Rattle.tdl_trace.specs.declared.row.Row.TheVariants.{Port, Act, Mode}
 
 -- what one row shows, each at an instant in microseconds and on a node
@@ -10,6 +11,16 @@ pub data Shown : Type 0 where
   Updated : (at node owner actuator : ℕ) (value : ℤ) → Shown
   -- a mode that was entered
   Entered : (at node owner mode : ℕ) → Shown
+  -- a sensor that was sensed
+  Sampled : (at node owner sensor : ℕ) (value : ℤ) → Shown
+  -- the run ends here
+  Trapped : (at node : ℕ) (why : Why) → Shown
+  -- an instruction of a block that was run: its opcode and its operands
+  Stepped : (at node owner block index op a b : ℕ) → Shown
+  -- a frame that was sent, with its bytes
+  Sent : (at node owner mode invocation : ℕ) (frame : List ℕ) → Shown
+  -- a job of a task ran in one window from an instant up to this one
+  Ran : (at node owner task from : ℕ) → Shown
 
 -- what a row of the program shows
 abbrev pub shown_of : Row → Shown

@@ -4,7 +4,9 @@
 mod line;
 mod names;
 mod row;
+mod why;
 
 pub use line::print_row;
 pub use names::{ModuleNames, Named, Names, TaskNames};
 pub use row::{Row, Rows};
+pub use why::Why;

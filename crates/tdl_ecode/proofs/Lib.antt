@@ -1,0 +1,4 @@
+pub mod Apart
+pub mod Digits
+pub mod Readings
+pub mod Unfinished

@@ -1,0 +1,71 @@
+-- How an instruction is spelled in bytes.
+use Rattle.std.specs.Prelude.{◌≡◌, ◌≢◌, ℕ, ◌^◌, ◌<◌, List, [], ◌∷◌, ◌++◌, length, take}
+use Rattle.std.specs.Int.{to_be_bytes, w16, w32}
+use Rattle.tdl_ecode.specs.declared.instr.EInstr.{EInstr}
+use Rattle.tdl_ecode.specs.declared.instr.EInstr.TheVariants.{Call, Release, End, Take, Mode, If, Jump, Future, Return}
+
+-- a number in two bytes, the high one first
+abbrev pub short : ℕ → List ℕ
+short n = to_be_bytes w16 n
+
+-- a number in four bytes, the highest first
+abbrev pub word : ℕ → List ℕ
+word n = to_be_bytes w32 n
+
+-- the first byte of each instruction
+abbrev pub opcode_of : EInstr → ℕ
+opcode_of Return = 0
+opcode_of (Call driver) = 1
+opcode_of (Release entry) = 2
+opcode_of (End task) = 3
+opcode_of (Take entry) = 4
+opcode_of (Mode mode) = 5
+opcode_of (If guard index) = 6
+opcode_of (Jump index) = 7
+opcode_of (Future delay block) = 8
+
+-- the bytes after it: the operands in their order
+abbrev pub operand_bytes : EInstr → List ℕ
+operand_bytes Return = []
+operand_bytes (Call driver) = short driver
+operand_bytes (Release entry) = short entry
+operand_bytes (End task) = short task
+operand_bytes (Take entry) = short entry
+operand_bytes (Mode mode) = short mode
+operand_bytes (If guard index) = short guard ++ word index
+operand_bytes (Jump index) = word index
+operand_bytes (Future delay block) = word delay ++ word block
+
+-- the spelling of an instruction
+abbrev pub einstr_bytes : EInstr → List ℕ
+einstr_bytes i = opcode_of i ∷ operand_bytes i
+
+-- each operand fits its bytes
+abbrev pub IsInRange : EInstr → Type 0
+IsInRange Return = Unit {0}
+IsInRange (Call driver) = driver < 2 ^ 16
+IsInRange (Release entry) = entry < 2 ^ 16
+IsInRange (End task) = task < 2 ^ 16
+IsInRange (Take entry) = entry < 2 ^ 16
+IsInRange (Mode mode) = mode < 2 ^ 16
+IsInRange (If guard index) = (guard < 2 ^ 16) × (index < 2 ^ 32)
+IsInRange (Jump index) = index < 2 ^ 32
+IsInRange (Future delay block) = (delay < 2 ^ 32) × (block < 2 ^ 32)
+
+-- the bytes begin with the spelling of the instruction
+pub record BeginsWith (bytes : List ℕ) (i : EInstr) : Type 0 where
+  pub fits : IsInRange i
+  pub front : take (length (einstr_bytes i)) bytes ≡ einstr_bytes i
+
+-- the bytes end within an instruction: something more, and they would spell one
+pub record IsUnfinished (bytes : List ℕ) : Type 0 where
+  pub instr : EInstr
+  pub fits : IsInRange instr
+  pub more : List ℕ
+  pub some : more ≢ []
+  pub whole : bytes ++ more ≡ einstr_bytes instr
+
+-- the first byte is the opcode of no instruction
+abbrev pub HasNoOpcode : List ℕ → Type 0
+HasNoOpcode [] = ⊥
+HasNoOpcode (b ∷ bytes) = (i : EInstr) → opcode_of i ≢ b

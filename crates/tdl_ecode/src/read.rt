@@ -1,0 +1,140 @@
+ghost use Rattle.std.specs.Prelude.{◌≡◌, ◌↔◌, length, slice_get, IfOk, Ok, Err};
+ghost use Rattle.std.specs.Int.{w16, w32};
+ghost use Rattle.tdl_ecode.specs.declared.instr.EInstr.{EInstr};
+ghost use Rattle.tdl_ecode.specs.Spelling.{einstr_bytes, BeginsWith, IsUnfinished, HasNoOpcode};
+ghost use Rattle.tdl_ecode.specs.Reading.{reading, instr_at, in_order, known, number_at, two};
+
+use crate::{EInstr, InstrFault, instr_len};
+
+/// The instruction that the bytes begin with, and how many bytes its spelling has; bytes may follow
+/// it. `Short` exactly where the bytes end within an instruction, as none do, and `Unknown` exactly
+/// where the first byte is no opcode. It takes no memory.
+pub fn get_instr(bytes: &[u8]) -> Result<(EInstr, usize), InstrFault>
+    ensures begins { IfOk result (λ r. BeginsWith bytes.now r.0) }
+    ensures len { IfOk result (λ r. r.1 ≡ length (einstr_bytes r.0)) }
+    ensures only { (i : EInstr) → BeginsWith bytes.now i → result ≡ Ok (i, length (einstr_bytes i)) }
+    ensures short { (result ≡ Err InstrFault.Short) ↔ IsUnfinished bytes.now }
+    ensures unknown { (result ≡ Err InstrFault.Unknown) ↔ HasNoOpcode bytes.now }
+    ensures exact { result ≡ reading bytes.now }
+{
+    read(bytes)
+}
+
+fn read(bytes: &[u8]) -> Result<(EInstr, usize), InstrFault>
+    ensures { result ≡ reading bytes.now }
+{
+    let i = read_instr(bytes)?;
+    Ok((i, instr_len(&i)))
+}
+
+fn read_instr(bytes: &[u8]) -> Result<EInstr, InstrFault>
+    ensures { result ≡ instr_at bytes.now }
+{
+    match bytes.split_first() {
+        None => Err(InstrFault::Short),
+        Some((opcode, operands)) => read_operands(*opcode, operands),
+    }
+}
+
+fn read_operands(opcode: u8, bytes: &[u8]) -> Result<EInstr, InstrFault>
+    ensures { result ≡ known (slice_get (in_order bytes.now) opcode) }
+{
+    match opcode {
+        0 => Ok(EInstr::Return),
+        1 => Ok(EInstr::Call(short(bytes)?)),
+        2 => Ok(EInstr::Release(short(bytes)?)),
+        3 => Ok(EInstr::End(short(bytes)?)),
+        4 => Ok(EInstr::Take(short(bytes)?)),
+        5 => Ok(EInstr::Mode(short(bytes)?)),
+        6 => read_if(bytes),
+        7 => Ok(EInstr::Jump(word(bytes)?)),
+        8 => read_future(bytes),
+        _ => Err(InstrFault::Unknown),
+    }
+}
+
+fn short(bytes: &[u8]) -> Result<u16, InstrFault>
+    ensures { result ≡ number_at w16 bytes.now }
+{
+    match bytes {
+        [a, b, ..] => Ok(u16::from_be_bytes([*a, *b])),
+        _ => Err(InstrFault::Short),
+    }
+}
+
+fn word(bytes: &[u8]) -> Result<u32, InstrFault>
+    ensures { result ≡ number_at w32 bytes.now }
+{
+    match bytes {
+        [a, b, c, d, ..] => Ok(u32::from_be_bytes([*a, *b, *c, *d])),
+        _ => Err(InstrFault::Short),
+    }
+}
+
+fn read_if(bytes: &[u8]) -> Result<EInstr, InstrFault>
+    ensures { result ≡ two w16 w32 EInstr.If bytes.now }
+{
+    match bytes {
+        [a, b, c, d, e, f, ..] => Ok(EInstr::If(
+            u16::from_be_bytes([*a, *b]),
+            u32::from_be_bytes([*c, *d, *e, *f]),
+        )),
+        _ => Err(InstrFault::Short),
+    }
+}
+
+fn read_future(bytes: &[u8]) -> Result<EInstr, InstrFault>
+    ensures { result ≡ two w32 w32 EInstr.Future bytes.now }
+{
+    match bytes {
+        [a, b, c, d, e, f, g, h, ..] => Ok(EInstr::Future(
+            u32::from_be_bytes([*a, *b, *c, *d]),
+            u32::from_be_bytes([*e, *f, *g, *h]),
+        )),
+        _ => Err(InstrFault::Short),
+    }
+}
+
+#[cfg(test)]
+mod tests {
+    use super::*;
+    use crate::put_instr;
+    use std::alloc::Global;
+    use std::test::Fail;
+
+    fn spelled(alloc: Global, i: EInstr) -> Result<Vec<u8>, Fail> {
+        let mut bytes = Vec::new(alloc);
+        put_instr(&i, &mut bytes)?;
+        Ok(bytes)
+    }
+
+    #[test]
+    fn nine_instructions(rt: HostRuntime) -> Result<(), Fail> {
+        let rows = [
+            (EInstr::Return, b"\x00".as_slice()),
+            (EInstr::Call(0x0102), b"\x01\x01\x02".as_slice()),
+            (EInstr::Release(3), b"\x02\x00\x03".as_slice()),
+            (EInstr::End(0xfffe), b"\x03\xff\xfe".as_slice()),
+            (EInstr::Take(0x0500), b"\x04\x05\x00".as_slice()),
+            (EInstr::Mode(6), b"\x05\x00\x06".as_slice()),
+            (EInstr::If(7, 0x0102_0304), b"\x06\x00\x07\x01\x02\x03\x04".as_slice()),
+            (EInstr::Jump(9), b"\x07\x00\x00\x00\x09".as_slice()),
+            (EInstr::Future(5000, 2), b"\x08\x00\x00\x13\x88\x00\x00\x00\x02".as_slice()),
+        ];
+        for (i, bytes) in rows {
+            assert_eq!(rt; spelled(rt.alloc(), i)?.as_slice(), bytes, "{i:?}");
+            assert_eq!(rt; get_instr(bytes), Ok((i, bytes.len())), "{i:?}");
+            for len in 0..bytes.len() {
+                assert_eq!(rt; get_instr(&bytes[..len]), Err(InstrFault::Short), "{i:?} {len}");
+            }
+        }
+        Ok(())
+    }
+
+    #[test]
+    fn no_opcode(rt: HostRuntime) {
+        for bytes in [b"\x09".as_slice(), b"\xff\x00\x00".as_slice()] {
+            assert_eq!(rt; get_instr(bytes), Err(InstrFault::Unknown), "{bytes:?}");
+        }
+    }
+}

@@ -1,0 +1,186 @@
+-- The images of a program: its tables on each node.
+use Rattle.std.specs.Prelude.{ℕ, zero, suc, ◌+◌, ◌-◌, Bool, true, false, not, ◌==◌, ◌&&◌, ◌||◌, nat_lt, List, [], ◌∷◌, ◌++◌, map, filter, flat_map, find, Option, Some, None, option_map, unwrap_or, slice_get, if◌then◌else◌}
+use Rattle.tdl_base.specs.declared.kinds.Kind.{Kind}
+use Rattle.tdl_body.specs.declared.tree.Expr.{Expr}
+use Rattle.tdl_mode.specs.declared.program.Program.{Program}
+use Rattle.tdl_mode.specs.declared.program.Module.{Module}
+use Rattle.tdl_mode.specs.declared.program.Mode.{Mode}
+use Rattle.tdl_mode.specs.declared.program.Task.{Task}
+use Rattle.tdl_mode.specs.declared.program.PortDef.{PortDef}
+use Rattle.tdl_mode.specs.declared.program.Invocation.{Invocation}
+use Rattle.tdl_mode.specs.States.{numbered}
+use Rattle.tdl_deploy.specs.declared.placement.Placement.{Placement}
+use Rattle.tdl_deploy.specs.declared.placement.PlacedNode.{PlacedNode}
+use Rattle.tdl_deploy.specs.declared.schedule.Schedule.{Schedule}
+use Rattle.tdl_deploy.specs.declared.schedule.Window.{Window}
+use Rattle.tdl_deploy.specs.declared.schedule.Resource.{Resource}
+use Rattle.tdl_deploy.specs.declared.schedule.Resource.TheVariants.{Cpu, Bus}
+use Rattle.tdl_deploy.specs.Placed.{hosts, imports, is_remote}
+use Rattle.tdl_stack.specs.declared.instr.Code.{Code}
+use Rattle.tdl_ecode.specs.declared.instr.EInstr.TheVariants as e
+use Rattle.tdl_ecode.specs.declared.instr.Block.{Block}
+use Rattle.tdl_image.specs.declared.bundle.KindName.{KindName}
+use Rattle.tdl_image.specs.declared.bundle.Initial.{Initial}
+use Rattle.tdl_image.specs.declared.hosted.Hosted.{Hosted}
+use Rattle.tdl_image.specs.declared.hosted.TaskTable.{TaskTable}
+use Rattle.tdl_image.specs.declared.hosted.CallEntry.{CallEntry}
+use Rattle.tdl_image.specs.declared.hosted.ReleaseEntry.{ReleaseEntry}
+use Rattle.tdl_image.specs.declared.hosted.Driver.{Driver}
+use Rattle.tdl_image.specs.declared.hosted.ImageWindow.{ImageWindow}
+use Rattle.tdl_image.specs.declared.stub.Stub.{Stub}
+use Rattle.tdl_image.specs.declared.stub.StubTask.{StubTask}
+use Rattle.tdl_image.specs.declared.stub.Receive.{Receive}
+use Rattle.tdl_lower.specs.Templates.{expr_code, body_code}
+use Rattle.tdl_gen.specs.BlockNames.{InMode, BlockName, joined, block_number, call_names, driver_names, guard_names, release_names, number_in}
+use Rattle.tdl_gen.specs.Blocks.{blocks_of}
+
+abbrev pub coded : Expr → Code
+coded expr = record { instrs = expr_code expr }
+
+abbrev pub kind_names : List PortDef → List KindName
+kind_names ports = map (λ p. record { kind = p.kind; name = p.name }) ports
+
+abbrev pub initials : List PortDef → List Initial
+initials ports = map (λ p. record { kind = p.kind; name = p.name; initial = p.initial }) ports
+
+abbrev pub task_table : Task → TaskTable
+task_table t = record {
+  name = t.name;
+  worst = t.worst.0;
+  inputs = map (λ p. p.kind) t.inputs;
+  outputs = initials t.outputs;
+  locals = map (λ p. p.kind) t.locals;
+  body = record { instrs = body_code t.body } }
+
+abbrev pub mode_at : Module → ℕ → Option Mode
+mode_at m k = slice_get m.modes k
+
+-- an item or none, as a list
+abbrev pub listed : {A : Type 0} → Option A → List A
+listed None = []
+listed (Some a) = a ∷ []
+
+-- the first item of a mode that passes, and what is made of it
+abbrev pub in_mode : {A B : Type 0} → Module → ℕ → (Mode → List A) → (A → Bool) → (A → B) → List B
+in_mode m k items passes make = unwrap_or (option_map (λ mode. listed (option_map make (find passes (items mode)))) (mode_at m k)) []
+
+-- the call of a task activity
+abbrev pub call_of : Module → InMode → List CallEntry
+call_of m name =
+    in_mode m name.mode (λ mode. mode.invocations) (λ i. i.act == name.number) (λ i. record { task = i.task.0; args = map coded i.args })
+
+-- the driver of an update activity
+abbrev pub driver_of : Module → InMode → List Driver
+driver_of m name =
+    in_mode m name.mode (λ mode. mode.updates) (λ u. u.act == name.number) (λ u. record { actuator = u.actuator; value = coded u.value })
+
+-- the guards of a mode's activities of this number
+abbrev pub guards_in : Mode → ℕ → List Code
+guards_in mode a =
+    flat_map (λ i. map coded (listed i.guard)) (filter (λ i. i.act == a) mode.invocations)
+    ++ flat_map (λ u. map coded (listed u.guard)) (filter (λ u. u.act == a) mode.updates)
+    ++ flat_map (λ s. map coded (listed s.guard)) (filter (λ s. s.act == a) mode.switches)
+
+abbrev pub first_of : {A : Type 0} → List A → List A
+first_of [] = []
+first_of (a ∷ as') = a ∷ []
+
+-- the guard of an activity
+abbrev pub guard_of : Module → InMode → List Code
+guard_of m name = unwrap_or (option_map (λ mode. first_of (guards_in mode name.number)) (mode_at m name.mode)) []
+
+-- the release of an invocation
+abbrev pub release_of : Module → InMode → List ReleaseEntry
+release_of m name =
+    unwrap_or (option_map
+      (λ mode. map (λ i. record { mode = name.mode; invocation = name.number; call = number_in (call_names m) name.mode i.act })
+        (listed (slice_get mode.invocations (name.number - 1)))) (mode_at m name.mode)) []
+
+abbrev pub is_bus : Resource → Bool
+is_bus Cpu = false
+is_bus Bus = true
+
+-- a window of the schedule as one of an image
+abbrev pub image_window : Window → ImageWindow
+image_window w = record { bus = is_bus w.resource; mode = w.mode.0; invocation = w.invocation; offset = w.offset; length = w.length }
+
+-- one window comes before another: by mode, invocation, resource and offset
+abbrev pub is_before : ImageWindow → ImageWindow → Bool
+is_before v w =
+    nat_lt v.mode w.mode || (v.mode == w.mode && (nat_lt v.invocation w.invocation || (v.invocation == w.invocation
+      && ((not v.bus && w.bus) || ((v.bus && w.bus || not v.bus && not w.bus) && nat_lt v.offset w.offset)))))
+
+-- a window in its place among windows in order, behind its equals
+abbrev pub placed : ImageWindow → List ImageWindow → List ImageWindow
+placed w [] = w ∷ []
+placed w (v ∷ vs) = if is_before w v then w ∷ v ∷ vs else v ∷ placed w vs
+
+abbrev pub ordered_from : List ImageWindow → List ImageWindow → List ImageWindow
+ordered_from done [] = done
+ordered_from done (w ∷ ws) = ordered_from (placed w done) ws
+
+-- the windows of module m, in order
+abbrev pub windows_of : Schedule → ℕ → List ImageWindow
+windows_of s m = ordered_from [] (map image_window (filter (λ w. w.module.0 == m) s.windows))
+
+-- module m where it is hosted
+abbrev pub hosted_of : Schedule → ℕ → Module → Hosted
+hosted_of s k m = record {
+  number = record { 0 = k };
+  name = m.name;
+  sensors = kind_names m.sensors;
+  actuators = initials m.actuators;
+  tasks = map task_table m.tasks;
+  modes = map (λ mode. mode.name) m.modes;
+  calls = flat_map (call_of m) (call_names m);
+  releases = flat_map (release_of m) (release_names m);
+  guards = flat_map (guard_of m) (guard_names m);
+  drivers = flat_map (driver_of m) (driver_names m);
+  windows = windows_of s k;
+  blocks = blocks_of m;
+  entry = block_number m BlockName.Boot }
+
+-- the public tasks of a module, with their numbers
+abbrev pub stub_tasks : Module → List StubTask
+stub_tasks m = joined (numbered 0 (λ t task. if task.public then record { number = t; name = task.name; outputs = initials task.outputs } ∷ [] else []) m.tasks)
+
+-- where the bus window of an invocation ends, in its cycle
+abbrev pub bus_end : Schedule → ℕ → ℕ → ℕ → ℕ
+bus_end s m k n =
+    unwrap_or (option_map (λ w. w.offset + w.length)
+      (find (λ w. is_bus w.resource && (w.module.0 == m && (w.mode.0 == k && w.invocation == n))) s.windows)) 0
+
+-- the invocations of a task in a mode, with what follows their frames' arrival; the blocks are numbered later
+abbrev pub receives_in : Schedule → ℕ → ℕ → ℕ → Mode → List Receive
+receives_in s m t k mode =
+    joined (numbered 1 (λ n i. if i.task.0 == t
+      then record { mode = k; invocation = n; task = t; delta = i.e.0 - bus_end s m k n; block = 0 } ∷ []
+      else []) mode.invocations)
+
+-- an entry for each remote invocation, by task, mode and number, each with its own block
+abbrev pub receives : Program → Placement → Schedule → ℕ → Module → List Receive
+receives p pl s k m =
+    numbered 0 (λ r (e : Receive). record e { block = r })
+      (joined (numbered 0 (λ t task. if is_remote p pl k task then joined (numbered 0 (receives_in s k t) m.modes) else []) m.tasks))
+
+-- the block of entry r
+abbrev pub take_block : ℕ → Block
+take_block r = record { phase = 1; code = e.Take r ∷ e.Return ∷ [] }
+
+-- the stub of module m
+abbrev pub stub_of : Program → Placement → Schedule → ℕ → Module → Stub
+stub_of p pl s k m = record {
+  number = record { 0 = k };
+  name = m.name;
+  tasks = stub_tasks m;
+  entries = receives p pl s k m;
+  blocks = map (λ (e : Receive). take_block e.block) (receives p pl s k m) }
+
+-- the modules that a node hosts, in order of their numbers
+abbrev pub hosted_on : Program → Placement → Schedule → ℕ → List Hosted
+hosted_on p pl s node = joined (numbered 0 (λ k m. if hosts pl node k then hosted_of s k m ∷ [] else []) p.modules)
+
+-- the stubs of a node: of the modules that its own import and that it does not host
+abbrev pub stubs_on : Program → Placement → Schedule → ℕ → List Stub
+stubs_on p pl s node =
+    joined (numbered 0 (λ k m. if not (hosts pl node k) && imports p pl node k then stub_of p pl s k m ∷ [] else []) p.modules)

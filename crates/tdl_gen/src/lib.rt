@@ -1,0 +1,2 @@
+//! The images of a program: what they are is in specs/.
+#![tactic(auto)]

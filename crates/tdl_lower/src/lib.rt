@@ -1,0 +1,2 @@
+//! Bodies and expressions as stack code: the templates are in specs/.
+#![tactic(auto)]

@@ -1,0 +1,5 @@
+#![tactic(auto)]
+
+mod instr;
+
+pub use instr::{Code, Instr};

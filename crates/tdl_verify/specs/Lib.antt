@@ -1,0 +1,5 @@
+pub mod States
+pub mod Turns
+pub mod Micros
+pub mod Bus
+pub mod Runs

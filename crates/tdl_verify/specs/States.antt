@@ -1,0 +1,164 @@
+-- The state of a node: its hosted modules and stubs, each with its tables beside its state.
+use Rattle.std.specs.Prelude.{◌≡◌, ℕ, zero, suc, ℤ, pos, Bool, nat_lt, List, [], ◌∷◌, ◌++◌, map, Option, Some, None, option_map, unwrap_or, slice_get, slice_index_or, replicate, length, find, if◌then◌else◌, ◌==◌}
+use Rattle.tdl_base.specs.declared.kinds.Kind.{Kind}
+use Rattle.tdl_base.specs.declared.numbers.PortKey.{PortKey}
+use Rattle.tdl_stack.specs.declared.instr.Code.{Code}
+use Rattle.tdl_stack.specs.Running.{Look, number_of}
+use Rattle.tdl_ecode.specs.declared.instr.EInstr.{EInstr}
+use Rattle.tdl_ecode.specs.declared.instr.Block.{Block}
+use Rattle.tdl_image.specs.declared.bundle.Image.{Image}
+use Rattle.tdl_image.specs.declared.bundle.Initial.{Initial}
+use Rattle.tdl_image.specs.declared.hosted.Hosted.{Hosted}
+use Rattle.tdl_image.specs.declared.hosted.TaskTable.{TaskTable}
+use Rattle.tdl_image.specs.declared.stub.Stub.{Stub}
+use Rattle.tdl_image.specs.declared.stub.StubTask.{StubTask}
+use Rattle.tdl_image.specs.declared.stub.Receive.{Receive}
+
+-- the slot of a task: no job, a job that has so many microseconds left, or one that is done
+pub data Slot : Type 0 where
+  Idle : Slot
+  Ready : (mode invocation left : ℕ) (cells : List ℤ) → Slot
+  Done : (mode invocation : ℕ) (outputs : List ℤ) → Slot
+
+-- a task of a hosted module: its committed outputs, its slot, and how many jobs were released
+pub record TaskNow : Type 0 where
+  pub outputs : List ℤ
+  pub slot : Slot
+  pub released : ℕ
+
+-- an instant and the block that runs then
+pub record Trigger : Type 0 where
+  pub at : ℕ
+  pub block : ℕ
+
+-- a hosted module: its mode or none, where its cycle began, its trigger or none, its tasks and actuators
+pub record HostNow : Type 0 where
+  pub mode : Option ℕ
+  pub base : ℕ
+  pub trigger : Option Trigger
+  pub tasks : List TaskNow
+  pub actuators : List ℤ
+
+-- a receive entry: the outputs of its last frame, and the instant at which its block runs or none
+pub record EntryNow : Type 0 where
+  pub copy : List ℤ
+  pub due : Option ℕ
+
+-- a stub: the outputs of its tasks, and its entries
+pub record StubNow : Type 0 where
+  pub outputs : List (List ℤ)
+  pub entries : List EntryNow
+
+-- a hosted module or a stub, its tables beside its state
+pub data Part : Type 0 where
+  Host : Hosted → HostNow → Part
+  Outside : Stub → StubNow → Part
+
+-- a stretch in which one job runs in one window: whose, the window's end, and where it began
+pub record Stretch : Type 0 where
+  pub owner : ℕ
+  pub task : ℕ
+  pub mode : ℕ
+  pub invocation : ℕ
+  pub window_end : ℕ
+  pub from : ℕ
+
+-- a node: the greatest number of instructions at one instant, its parts in ascending number, and the open stretch
+pub record NodeNow : Type 0 where
+  pub declared : ℕ
+  pub parts : List Part
+  pub running : Option Stretch
+
+-- how long the k-th job of a task of a module takes, from 1
+abbrev pub Times : Type 0
+Times = ℕ → ℕ → ℕ → ℕ
+
+-- what each sensor of each module shows at one instant
+abbrev pub Sensed : Type 0
+Sensed = ℕ → ℕ → ℤ
+
+-- f of each item with its number, the first being k
+abbrev pub numbered : {A B : Type 0} → ℕ → (ℕ → A → B) → List A → List B
+numbered k f [] = []
+numbered k f (x ∷ xs) = f k x ∷ numbered (suc k) f xs
+
+-- the list with f of its item k in that item's place
+abbrev pub changed_at : {A : Type 0} → ℕ → (A → A) → List A → List A
+changed_at k f [] = []
+changed_at zero f (x ∷ xs) = f x ∷ xs
+changed_at (suc k) f (x ∷ xs) = x ∷ changed_at k f xs
+
+-- the items of lists, one list after the other
+abbrev pub joined : {A : Type 0} → List (List A) → List A
+joined [] = []
+joined (xs ∷ more) = xs ++ joined more
+
+-- the number of a module or stub
+abbrev pub part_number : Part → ℕ
+part_number (Part.Host h s) = h.number.0
+part_number (Part.Outside t s) = t.number.0
+
+-- the outputs of task t of a part
+abbrev pub part_outputs : Part → ℕ → List ℤ
+part_outputs (Part.Host h s) t = unwrap_or (option_map (λ u. u.outputs) (slice_get s.tasks t)) []
+part_outputs (Part.Outside p s) t = find_outputs t p.tasks s.outputs
+  where
+    find_outputs : ℕ → List StubTask → List (List ℤ) → List ℤ
+    find_outputs t (task ∷ tasks) (outputs ∷ more) = if task.number == t then outputs else find_outputs t tasks more
+    find_outputs t tasks outputs = []
+
+-- the outputs that the parts of a node hold
+abbrev pub outputs_on : List Part → PortKey → ℤ
+outputs_on parts key =
+    slice_index_or (unwrap_or (option_map (λ p. part_outputs p key.task.0) (find (λ p. part_number p == key.module.0) parts)) []) key.output (pos 0)
+
+-- what the code of module m reads on a node
+abbrev pub look_on : List Part → Sensed → ℕ → Look
+look_on parts sensed m = record { sensor = sensed m; port = outputs_on parts }
+
+-- the number of a code of module m
+abbrev pub value_on : List Part → Sensed → ℕ → Code → ℤ
+value_on parts sensed m code = number_of (look_on parts sensed m) code.instrs
+
+abbrev pub initials : List Initial → List ℤ
+initials ports = map (λ p. p.initial) ports
+
+-- a task before its first job
+abbrev pub task_first : TaskTable → TaskNow
+task_first t = record { outputs = initials t.outputs; slot = Slot.Idle; released = 0 }
+
+-- a hosted module before instant 0: no mode, and a trigger at 0 for its entry block
+abbrev pub host_first : Hosted → Part
+host_first h = Part.Host h (record {
+  mode = None;
+  base = 0;
+  trigger = Some (record { at = 0; block = h.entry });
+  tasks = map task_first h.tasks;
+  actuators = initials h.actuators })
+
+-- the initial outputs of task t of a stub
+abbrev pub stub_initials : Stub → ℕ → List ℤ
+stub_initials s t = unwrap_or (option_map (λ (k : StubTask). initials k.outputs) (find (λ k. k.number == t) s.tasks)) []
+
+-- a stub before instant 0: its entries hold the initial outputs of their tasks
+abbrev pub stub_first : Stub → Part
+stub_first s = Part.Outside s (record {
+  outputs = map (λ (t : StubTask). initials t.outputs) s.tasks;
+  entries = map (λ (e : Receive). record { copy = stub_initials s e.task; due = None }) s.entries })
+
+-- a part in its place among parts of ascending number
+abbrev pub placed : Part → List Part → List Part
+placed p [] = p ∷ []
+placed p (q ∷ qs) = if nat_lt (part_number q) (part_number p) then q ∷ placed p qs else p ∷ q ∷ qs
+
+-- parts one after the other, each in its place among the others
+abbrev pub placed_all : List Part → List Part → List Part
+placed_all [] qs = qs
+placed_all (p ∷ ps) qs = placed p (placed_all ps qs)
+
+-- a node before instant 0
+abbrev pub node_first : Image → NodeNow
+node_first image = record {
+  declared = image.declared;
+  parts = placed_all (map host_first image.hosted) (map stub_first image.stubs);
+  running = None }

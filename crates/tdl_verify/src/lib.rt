@@ -1,0 +1,2 @@
+//! The machine that runs bundles. What it does is in specs/.
+#![tactic(auto)]
