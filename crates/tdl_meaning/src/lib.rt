@@ -1,0 +1,2 @@
+//! What the bundle of a plain program means.
+#![tactic(auto)]
