@@ -1,7 +1,6 @@
 -- No spelling begins another one.
 use Rattle.std.proofs.Common.{◌≡◌, ℕ, suc, List, [], ◌∷◌, ◌++◌, length, get_or, drop, refl, sym, ap, ◌∙◌, append-nil}
-use Rattle.std.specs.Prelude.{Result, Ok, Err}
-use Rattle.std.proofs.lemmas.List.{append_cancel_left}
+use Rattle.std.specs.Prelude.{Result, Ok}
 use Rattle.std.proofs.Math.Seq.{drop-append_seam}
 use Rattle.tdl_ecode.specs.declared.instr.EInstr.{EInstr}
 use Rattle.tdl_ecode.specs.declared.instr.EInstr.TheVariants.{Call, Release, End, Take, Mode, If, Jump, Future, Return}
@@ -36,7 +35,7 @@ same_len i j x y e =
 pub same_after : (i j : EInstr) (x y : List ℕ) → einstr_bytes i ++ x ≡ einstr_bytes j ++ y → x ≡ y
 same_after i j x y e =
     sym (drop-append_seam (einstr_bytes i) x) ∙ ap (drop (length (einstr_bytes i))) e
-      ∙ ap (λ n. drop n (einstr_bytes j ++ y)) (same_len i j x y e) ∙ drop-append_seam (einstr_bytes j) y
+    ∙ ap (λ n. drop n (einstr_bytes j ++ y)) (same_len i j x y e) ∙ drop-append_seam (einstr_bytes j) y
 
 -- so nothing follows where the other is whole
 pub nothing_after : (i j : EInstr) (more : List ℕ) → einstr_bytes i ++ more ≡ einstr_bytes j → more ≡ []

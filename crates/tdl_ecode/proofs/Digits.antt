@@ -1,7 +1,7 @@
 -- Numbers of two and four bytes.
-use Rattle.std.proofs.Common.{◌≡◌, ℕ, zero, suc, ◌+◌, ◌*◌, ◌^◌, ◌<◌, ◌≤◌, Bool, true, false, List, [], ◌∷◌, ◌++◌, length, get_or, take, drop, nat_lt, refl, sym, ap, subst, ◌∙◌, arith}
-use Rattle.std.specs.Prelude.{Result, Ok, Err}
-use Rattle.std.specs.Int.{Width, byte_len, w16, w32, from_be_bytes, to_be_bytes}
+use Rattle.std.proofs.Common.{◌≡◌, ℕ, zero, suc, ◌^◌, ◌<◌, ◌≤◌, true, false, List, [], ◌∷◌, ◌++◌, length, get_or, nat_lt, refl, ap, ◌∙◌, arith}
+use Rattle.std.specs.Prelude.{Ok}
+use Rattle.std.specs.Int.{w16, w32, from_be_bytes}
 use Rattle.std.proofs.lemmas.Nat.{be_bytes_2, be_bytes_4, from_be_bytes-to_be_bytes_2, from_be_bytes-to_be_bytes_4}
 use Rattle.std.proofs.lemmas.Bool.Decides.{nat_tests}
 use Rattle.tdl_ecode.specs.declared.instr.EInstr.{EInstr}
@@ -68,9 +68,9 @@ word_again n rest fits = rw (enough (length (word n ++ rest)) 4 (omega arith)) (
 pub short_word_again : (made : ℕ → ℕ → EInstr) (m n : ℕ) (rest : List ℕ) → m < 2 ^ 16 → n < 2 ^ 32 → two w16 w32 made (short m ++ word n ++ rest) ≡ Ok (made m n)
 short_word_again made m n rest fits also =
     rw (enough (length (short m ++ word n ++ rest)) 6 (omega arith))
-      (ap (λ k. Ok (made k (from_be_bytes w32 (word n ++ rest)))) (from_be_bytes-to_be_bytes_2 m fits) ∙ ap (λ k. Ok (made m k)) (from_be_bytes-to_be_bytes_4 n also))
+    (ap (λ k. Ok (made k (from_be_bytes w32 (word n ++ rest)))) (from_be_bytes-to_be_bytes_2 m fits) ∙ ap (λ k. Ok (made m k)) (from_be_bytes-to_be_bytes_4 n also))
 
 pub words_again : (made : ℕ → ℕ → EInstr) (m n : ℕ) (rest : List ℕ) → m < 2 ^ 32 → n < 2 ^ 32 → two w32 w32 made (word m ++ word n ++ rest) ≡ Ok (made m n)
 words_again made m n rest fits also =
     rw (enough (length (word m ++ word n ++ rest)) 8 (omega arith))
-      (ap (λ k. Ok (made k (from_be_bytes w32 (word n ++ rest)))) (from_be_bytes-to_be_bytes_4 m fits) ∙ ap (λ k. Ok (made m k)) (from_be_bytes-to_be_bytes_4 n also))
+    (ap (λ k. Ok (made k (from_be_bytes w32 (word n ++ rest)))) (from_be_bytes-to_be_bytes_4 m fits) ∙ ap (λ k. Ok (made m k)) (from_be_bytes-to_be_bytes_4 n also))

@@ -1,13 +1,12 @@
 -- What reading gives: an instruction whose spelling the bytes begin with, and no other.
-use Rattle.std.proofs.Common.{◌≡◌, ℕ, zero, suc, ◌+◌, ◌*◌, ◌^◌, ◌<◌, ◌≤◌, Bool, true, false, List, [], ◌∷◌, ◌++◌, length, get_or, take, drop, nat_lt, refl, sym, ap, ap₂, subst, ◌∙◌, arith}
+use Rattle.std.proofs.Common.{◌≡◌, ℕ, zero, suc, ◌^◌, ◌<◌, List, [], ◌∷◌, ◌++◌, length, take, drop, refl, sym, ap, ap₂, subst, ◌∙◌, arith}
 use Rattle.std.specs.Prelude.{Result, Ok, Err, IfOk}
-use Rattle.std.specs.Int.{w16, w32, from_be_bytes}
+use Rattle.std.specs.Int.{w16, w32}
 use Rattle.std.proofs.lemmas.List.{take-append-drop}
 use Rattle.tdl_ecode.specs.declared.instr.EInstr.{EInstr}
 use Rattle.tdl_ecode.specs.declared.instr.EInstr.TheVariants.{Call, Release, End, Take, Mode, If, Jump, Future, Return}
 use Rattle.tdl_ecode.specs.declared.fault.InstrFault.{InstrFault}
-use Rattle.tdl_ecode.specs.declared.fault.InstrFault.TheVariants.{Short, Unknown}
-use Rattle.tdl_ecode.specs.Spelling.{short, word, opcode_of, operand_bytes, einstr_bytes, IsInRange, BeginsWith}
+use Rattle.tdl_ecode.specs.Spelling.{short, einstr_bytes, IsInRange, BeginsWith}
 use Rattle.tdl_ecode.specs.Reading.{number_at, made_of, two, instr_at, with_len, reading}
 use Rattle.tdl_ecode.proofs.Digits.{AreBytes, bytes_after, enough, short_of, short_fits, word_of, word_fits, short_again, word_again, short_word_again, words_again}
 
@@ -27,7 +26,8 @@ instr_again (Future m n) rest fits = words_again Future m n rest fits.0 fits.1
 begins_by : (bytes front : List ℕ) (i : EInstr) → IsInRange i → einstr_bytes i ≡ front → take (length front) bytes ≡ front → BeginsWith bytes i
 begins_by bytes front i fits spelled taken = record {
   fits = fits;
-  front = subst (λ (s : List ℕ). take (length s) bytes ≡ s) (sym spelled) taken }
+  front = subst (λ (s : List ℕ). take (length s) bytes ≡ s) (sym spelled) taken;
+}
 
 -- a number of two bytes that was read makes an instruction that the bytes begin with
 short_begins : (opcode : ℕ) (made : ℕ → EInstr) (bytes : List ℕ) →
@@ -37,8 +37,8 @@ short_begins opcode made [] fits spelled small = tt
 short_begins opcode made (a ∷ []) fits spelled small = tt
 short_begins opcode made (a ∷ b ∷ more) fits spelled small =
     rw (enough (length (a ∷ b ∷ more)) 2 (omega arith))
-      (begins_by _ (opcode ∷ a ∷ b ∷ []) _ (fits _ (short_fits a b more small))
-        (spelled _ ∙ ap (λ (s : List ℕ). opcode ∷ s) (short_of a b more small)) refl)
+    (begins_by _ (opcode ∷ a ∷ b ∷ []) _ (fits _ (short_fits a b more small))
+    (spelled _ ∙ ap (λ (s : List ℕ). opcode ∷ s) (short_of a b more small)) refl)
 
 -- so does a number of four bytes
 word_begins : (bytes : List ℕ) → AreBytes bytes → IfOk (made_of Jump (number_at w32 bytes)) (BeginsWith (7 ∷ bytes))
@@ -48,8 +48,8 @@ word_begins (a ∷ b ∷ []) small = tt
 word_begins (a ∷ b ∷ c ∷ []) small = tt
 word_begins (a ∷ b ∷ c ∷ d ∷ more) small =
     rw (enough (length (a ∷ b ∷ c ∷ d ∷ more)) 4 (omega arith))
-      (begins_by _ (7 ∷ a ∷ b ∷ c ∷ d ∷ []) _ (word_fits a b c d more small)
-        (ap (λ (s : List ℕ). 7 ∷ s) (word_of a b c d more small)) refl)
+    (begins_by _ (7 ∷ a ∷ b ∷ c ∷ d ∷ []) _ (word_fits a b c d more small)
+    (ap (λ (s : List ℕ). 7 ∷ s) (word_of a b c d more small)) refl)
 
 -- and a pair of numbers
 short_word_begins : (bytes : List ℕ) → AreBytes bytes → IfOk (two w16 w32 If bytes) (BeginsWith (6 ∷ bytes))
@@ -62,9 +62,9 @@ short_word_begins (a ∷ b ∷ c ∷ d ∷ e ∷ []) small = tt
 short_word_begins (a ∷ b ∷ c ∷ d ∷ e ∷ f ∷ more) small =
     let after : AreBytes (c ∷ d ∷ e ∷ f ∷ more) = λ k. small (suc (suc k)) in
     rw (enough (length (a ∷ b ∷ c ∷ d ∷ e ∷ f ∷ more)) 6 (omega arith))
-      (begins_by _ (6 ∷ a ∷ b ∷ c ∷ d ∷ e ∷ f ∷ []) _
-        (short_fits a b (c ∷ d ∷ e ∷ f ∷ more) small, word_fits c d e f more after)
-        (ap₂ (λ (s t : List ℕ). 6 ∷ (s ++ t)) (short_of a b (c ∷ d ∷ e ∷ f ∷ more) small) (word_of c d e f more after)) refl)
+    (begins_by _ (6 ∷ a ∷ b ∷ c ∷ d ∷ e ∷ f ∷ []) _
+    (short_fits a b (c ∷ d ∷ e ∷ f ∷ more) small, word_fits c d e f more after)
+    (ap₂ (λ (s t : List ℕ). 6 ∷ (s ++ t)) (short_of a b (c ∷ d ∷ e ∷ f ∷ more) small) (word_of c d e f more after)) refl)
 
 words_begins : (bytes : List ℕ) → AreBytes bytes → IfOk (two w32 w32 Future bytes) (BeginsWith (8 ∷ bytes))
 words_begins [] small = tt
@@ -78,9 +78,9 @@ words_begins (a ∷ b ∷ c ∷ d ∷ e ∷ f ∷ g ∷ []) small = tt
 words_begins (a ∷ b ∷ c ∷ d ∷ e ∷ f ∷ g ∷ h ∷ more) small =
     let after : AreBytes (e ∷ f ∷ g ∷ h ∷ more) = λ k. small (suc (suc (suc (suc k)))) in
     rw (enough (length (a ∷ b ∷ c ∷ d ∷ e ∷ f ∷ g ∷ h ∷ more)) 8 (omega arith))
-      (begins_by _ (8 ∷ a ∷ b ∷ c ∷ d ∷ e ∷ f ∷ g ∷ h ∷ []) _
-        (word_fits a b c d (e ∷ f ∷ g ∷ h ∷ more) small, word_fits e f g h more after)
-        (ap₂ (λ (s t : List ℕ). 8 ∷ (s ++ t)) (word_of a b c d (e ∷ f ∷ g ∷ h ∷ more) small) (word_of e f g h more after)) refl)
+    (begins_by _ (8 ∷ a ∷ b ∷ c ∷ d ∷ e ∷ f ∷ g ∷ h ∷ []) _
+    (word_fits a b c d (e ∷ f ∷ g ∷ h ∷ more) small, word_fits e f g h more after)
+    (ap₂ (λ (s t : List ℕ). 8 ∷ (s ++ t)) (word_of a b c d (e ∷ f ∷ g ∷ h ∷ more) small) (word_of e f g h more after)) refl)
 
 -- what is read after an opcode, the bytes begin with
 begins_at : (opcode : ℕ) (bytes : List ℕ) → AreBytes bytes → IfOk (instr_at (opcode ∷ bytes)) (BeginsWith (opcode ∷ bytes))

@@ -1,5 +1,5 @@
 -- When reading gives no instruction: the bytes end too early, or the first is no opcode.
-use Rattle.std.proofs.Common.{◌≡◌, ◌≢◌, ℕ, zero, suc, ◌+◌, ◌-◌, ◌*◌, ◌^◌, ◌<◌, ◌≤◌, Bool, true, false, cond, List, [], ◌∷◌, ◌++◌, length, get_or, take, drop, nat_lt, replicate, refl, sym, ap, ap₂, subst, ◌∙◌, arith, length-append}
+use Rattle.std.proofs.Common.{◌≡◌, ◌≢◌, ℕ, zero, suc, ◌+◌, ◌-◌, ◌^◌, ◌<◌, Bool, true, false, cond, List, [], ◌∷◌, ◌++◌, length, drop, nat_lt, replicate, refl, sym, ap, ap₂, ◌∙◌, arith, length-append}
 use Rattle.std.specs.Prelude.{Result, Ok, Err}
 use Rattle.std.specs.Int.{Width, byte_len, w16, w32, from_be_bytes}
 use Rattle.std.proofs.lemmas.List.{length-replicate}
@@ -37,7 +37,8 @@ fill bytes n small few = record {
   more = replicate (n - length bytes) 0;
   some = λ none. omega (arith, length-replicate {A = ℕ} (n - length bytes) 0, ap length none);
   len = length-append bytes (replicate (n - length bytes) 0) ∙ omega (arith, length-replicate {A = ℕ} (n - length bytes) 0);
-  small = with_zeros bytes (n - length bytes) small }
+  small = with_zeros bytes (n - length bytes) small;
+}
 
 -- two bytes are the spelling of a number
 two_spell : (bytes : List ℕ) → length bytes ≡ 2 → AreBytes bytes → (short (from_be_bytes w16 bytes) ≡ bytes) × (from_be_bytes w16 bytes < 2 ^ 16)
@@ -58,7 +59,8 @@ short_ends opcode made bytes fits spelled full =
       fits = fits _ spell.1;
       more = full.more;
       some = full.some;
-      whole = ap (λ (s : List ℕ). opcode ∷ s) (sym spell.0) ∙ sym (spelled _) }
+      whole = ap (λ (s : List ℕ). opcode ∷ s) (sym spell.0) ∙ sym (spelled _);
+    }
 
 -- fewer than four after that of `jump`
 word_ends : (bytes : List ℕ) → Filled bytes 4 → IsUnfinished (7 ∷ bytes)
@@ -69,12 +71,13 @@ word_ends bytes full =
       fits = spell.1;
       more = full.more;
       some = full.some;
-      whole = ap (λ (s : List ℕ). 7 ∷ s) (sym spell.0) }
+      whole = ap (λ (s : List ℕ). 7 ∷ s) (sym spell.0);
+    }
 
 -- six bytes are the spelling of two numbers
 six_spell : (bytes : List ℕ) → length bytes ≡ 6 → AreBytes bytes →
     (short (from_be_bytes w16 bytes) ++ word (from_be_bytes w32 (drop 2 bytes)) ≡ bytes)
-      × (from_be_bytes w16 bytes < 2 ^ 16) × (from_be_bytes w32 (drop 2 bytes) < 2 ^ 32)
+    × (from_be_bytes w16 bytes < 2 ^ 16) × (from_be_bytes w32 (drop 2 bytes) < 2 ^ 32)
 six_spell [] len small = absurd (omega arith)
 six_spell (a ∷ []) len small = absurd (omega arith)
 six_spell (a ∷ b ∷ []) len small = absurd (omega arith)
@@ -82,15 +85,17 @@ six_spell (a ∷ b ∷ c ∷ []) len small = absurd (omega arith)
 six_spell (a ∷ b ∷ c ∷ d ∷ []) len small = absurd (omega arith)
 six_spell (a ∷ b ∷ c ∷ d ∷ e ∷ []) len small = absurd (omega arith)
 six_spell (a ∷ b ∷ c ∷ d ∷ e ∷ f ∷ []) len small =
-    let after : AreBytes (c ∷ d ∷ e ∷ f ∷ []) = λ k. small (suc (suc k)) in
-    (ap₂ (λ (s t : List ℕ). s ++ t) (short_of a b (c ∷ d ∷ e ∷ f ∷ []) small) (word_of c d e f [] after),
-      short_fits a b (c ∷ d ∷ e ∷ f ∷ []) small, word_fits c d e f [] after)
+    let after : AreBytes (c ∷ d ∷ e ∷ f ∷ []) = λ k. small (suc (suc k)) in (
+      ap₂ (λ (s t : List ℕ). s ++ t) (short_of a b (c ∷ d ∷ e ∷ f ∷ []) small) (word_of c d e f [] after),
+      short_fits a b (c ∷ d ∷ e ∷ f ∷ []) small,
+      word_fits c d e f [] after,
+    )
 six_spell (a ∷ b ∷ c ∷ d ∷ e ∷ f ∷ g ∷ more) len small = absurd (omega arith)
 
 -- so are eight
 eight_spell : (bytes : List ℕ) → length bytes ≡ 8 → AreBytes bytes →
     (word (from_be_bytes w32 bytes) ++ word (from_be_bytes w32 (drop 4 bytes)) ≡ bytes)
-      × (from_be_bytes w32 bytes < 2 ^ 32) × (from_be_bytes w32 (drop 4 bytes) < 2 ^ 32)
+    × (from_be_bytes w32 bytes < 2 ^ 32) × (from_be_bytes w32 (drop 4 bytes) < 2 ^ 32)
 eight_spell [] len small = absurd (omega arith)
 eight_spell (a ∷ []) len small = absurd (omega arith)
 eight_spell (a ∷ b ∷ []) len small = absurd (omega arith)
@@ -100,9 +105,11 @@ eight_spell (a ∷ b ∷ c ∷ d ∷ e ∷ []) len small = absurd (omega arith)
 eight_spell (a ∷ b ∷ c ∷ d ∷ e ∷ f ∷ []) len small = absurd (omega arith)
 eight_spell (a ∷ b ∷ c ∷ d ∷ e ∷ f ∷ g ∷ []) len small = absurd (omega arith)
 eight_spell (a ∷ b ∷ c ∷ d ∷ e ∷ f ∷ g ∷ h ∷ []) len small =
-    let after : AreBytes (e ∷ f ∷ g ∷ h ∷ []) = λ k. small (suc (suc (suc (suc k)))) in
-    (ap₂ (λ (s t : List ℕ). s ++ t) (word_of a b c d (e ∷ f ∷ g ∷ h ∷ []) small) (word_of e f g h [] after),
-      word_fits a b c d (e ∷ f ∷ g ∷ h ∷ []) small, word_fits e f g h [] after)
+    let after : AreBytes (e ∷ f ∷ g ∷ h ∷ []) = λ k. small (suc (suc (suc (suc k)))) in (
+      ap₂ (λ (s t : List ℕ). s ++ t) (word_of a b c d (e ∷ f ∷ g ∷ h ∷ []) small) (word_of e f g h [] after),
+      word_fits a b c d (e ∷ f ∷ g ∷ h ∷ []) small,
+      word_fits e f g h [] after,
+    )
 eight_spell (a ∷ b ∷ c ∷ d ∷ e ∷ f ∷ g ∷ h ∷ i ∷ more) len small = absurd (omega arith)
 
 -- fewer than six after that of `if`
@@ -111,13 +118,14 @@ short_word_ends bytes full = by (bytes ++ full.more) refl (six_spell (bytes ++ f
   where
     by : (all : List ℕ) → bytes ++ full.more ≡ all →
         (short (from_be_bytes w16 all) ++ word (from_be_bytes w32 (drop 2 all)) ≡ all)
-          × (from_be_bytes w16 all < 2 ^ 16) × (from_be_bytes w32 (drop 2 all) < 2 ^ 32) → IsUnfinished (6 ∷ bytes)
+        × (from_be_bytes w16 all < 2 ^ 16) × (from_be_bytes w32 (drop 2 all) < 2 ^ 32) → IsUnfinished (6 ∷ bytes)
     by all is spell = record {
       instr = If (from_be_bytes w16 all) (from_be_bytes w32 (drop 2 all));
       fits = (spell.1, spell.2);
       more = full.more;
       some = full.some;
-      whole = ap (λ (s : List ℕ). 6 ∷ s) (is ∙ sym spell.0) }
+      whole = ap (λ (s : List ℕ). 6 ∷ s) (is ∙ sym spell.0);
+    }
 
 -- fewer than eight after that of `future`
 words_end : (bytes : List ℕ) → Filled bytes 8 → IsUnfinished (8 ∷ bytes)
@@ -125,13 +133,14 @@ words_end bytes full = by (bytes ++ full.more) refl (eight_spell (bytes ++ full.
   where
     by : (all : List ℕ) → bytes ++ full.more ≡ all →
         (word (from_be_bytes w32 all) ++ word (from_be_bytes w32 (drop 4 all)) ≡ all)
-          × (from_be_bytes w32 all < 2 ^ 32) × (from_be_bytes w32 (drop 4 all) < 2 ^ 32) → IsUnfinished (8 ∷ bytes)
+        × (from_be_bytes w32 all < 2 ^ 32) × (from_be_bytes w32 (drop 4 all) < 2 ^ 32) → IsUnfinished (8 ∷ bytes)
     by all is spell = record {
       instr = Future (from_be_bytes w32 all) (from_be_bytes w32 (drop 4 all));
       fits = (spell.1, spell.2);
       more = full.more;
       some = full.some;
-      whole = ap (λ (s : List ℕ). 8 ∷ s) (is ∙ sym spell.0) }
+      whole = ap (λ (s : List ℕ). 8 ∷ s) (is ∙ sym spell.0);
+    }
 
 -- a number is not read where there are too few bytes
 number_ends : (w : Width) (made : ℕ → EInstr) (bytes : List ℕ) → made_of made (number_at w bytes) ≡ Err Short → length bytes < byte_len w

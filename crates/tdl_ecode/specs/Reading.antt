@@ -1,5 +1,5 @@
 -- What bytes say when they are read as an instruction.
-use Rattle.std.specs.Prelude.{ℕ, ◌+◌, List, [], ◌∷◌, length, drop, nat_lt, if◌then◌else◌, Option, Some, None, Result, Ok, Err, slice_get}
+use Rattle.std.specs.Prelude.{ℕ, ◌+◌, List, [], ◌∷◌, length, drop, nat_lt, if◌then◌else◌, Result, Ok, Err, slice_get, unwrap_or}
 use Rattle.std.specs.Int.{Width, byte_len, from_be_bytes, w16, w32}
 use Rattle.tdl_ecode.specs.declared.instr.EInstr.{EInstr}
 use Rattle.tdl_ecode.specs.declared.instr.EInstr.TheVariants.{Call, Release, End, Take, Mode, If, Jump, Future, Return}
@@ -7,11 +7,11 @@ use Rattle.tdl_ecode.specs.Spelling.{einstr_bytes}
 use Rattle.tdl_ecode.specs.declared.fault.InstrFault.{InstrFault}
 use Rattle.tdl_ecode.specs.declared.fault.InstrFault.TheVariants.{Short, Unknown}
 
--- the number in the first bytes
+-- the number in the first bytes; `Short` where they are too few
 abbrev pub number_at : Width → List ℕ → Result ℕ InstrFault
 number_at w bytes = if nat_lt (length bytes) (byte_len w) then Err Short else Ok (from_be_bytes w bytes)
 
--- an instruction that is made of a number, where that was read
+-- an instruction made of a number, where that was read
 abbrev pub made_of : (ℕ → EInstr) → Result ℕ InstrFault → Result EInstr InstrFault
 made_of made (Ok n) = Ok (made n)
 made_of made (Err fault) = Err fault
@@ -20,29 +20,24 @@ made_of made (Err fault) = Err fault
 abbrev pub one : Width → (ℕ → EInstr) → List ℕ → Result EInstr InstrFault
 one w made bytes = made_of made (number_at w bytes)
 
--- an instruction with two operands
+-- an instruction with two operands, read one after the other
 abbrev pub two : Width → Width → (ℕ → ℕ → EInstr) → List ℕ → Result EInstr InstrFault
 two v w made bytes =
     if nat_lt (length bytes) (byte_len v + byte_len w) then Err Short
     else Ok (made (from_be_bytes v bytes) (from_be_bytes w (drop (byte_len v) bytes)))
 
--- what the bytes after an opcode give, in the order of the opcodes
-abbrev pub in_order : List ℕ → List (Result EInstr InstrFault)
-in_order bytes =
+-- what the bytes after an opcode give, for each opcode in order
+abbrev pub by_opcode : List ℕ → List (Result EInstr InstrFault)
+by_opcode bytes =
     Ok Return ∷ one w16 Call bytes ∷ one w16 Release bytes ∷ one w16 End bytes ∷ one w16 Take bytes ∷
     one w16 Mode bytes ∷ two w16 w32 If bytes ∷ one w32 Jump bytes ∷ two w32 w32 Future bytes ∷ []
 
--- a choice that may not be there
-abbrev pub known : Option (Result EInstr InstrFault) → Result EInstr InstrFault
-known None = Err Unknown
-known (Some found) = found
-
--- the instruction that the bytes begin with
+-- the instruction that the bytes begin with: the first byte chooses it, and the others are its operands
 abbrev pub instr_at : List ℕ → Result EInstr InstrFault
 instr_at [] = Err Short
-instr_at (opcode ∷ bytes) = known (slice_get (in_order bytes) opcode)
+instr_at (opcode ∷ bytes) = unwrap_or (slice_get (by_opcode bytes) opcode) (Err Unknown)
 
--- an instruction with the length of its spelling
+-- an instruction beside the length of its spelling
 abbrev pub with_len : Result EInstr InstrFault → Result (EInstr × ℕ) InstrFault
 with_len (Ok i) = Ok (i, length (einstr_bytes i))
 with_len (Err fault) = Err fault

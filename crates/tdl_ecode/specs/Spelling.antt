@@ -40,7 +40,7 @@ operand_bytes (Future delay block) = word delay ++ word block
 abbrev pub einstr_bytes : EInstr → List ℕ
 einstr_bytes i = opcode_of i ∷ operand_bytes i
 
--- each operand fits its bytes
+-- each operand fits the bytes that it is spelled in
 abbrev pub IsInRange : EInstr → Type 0
 IsInRange Return = Unit {0}
 IsInRange (Call driver) = driver < 2 ^ 16
@@ -57,7 +57,7 @@ pub record BeginsWith (bytes : List ℕ) (i : EInstr) : Type 0 where
   pub fits : IsInRange i
   pub front : take (length (einstr_bytes i)) bytes ≡ einstr_bytes i
 
--- the bytes end within an instruction: something more, and they would spell one
+-- the bytes begin the spelling of an instruction, but end before it does
 pub record IsUnfinished (bytes : List ℕ) : Type 0 where
   pub instr : EInstr
   pub fits : IsInRange instr

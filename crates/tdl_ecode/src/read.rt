@@ -1,14 +1,14 @@
-ghost use Rattle.std.specs.Prelude.{◌≡◌, ◌↔◌, length, slice_get, IfOk, Ok, Err};
+ghost use Rattle.std.specs.Prelude.{◌≡◌, ◌↔◌, length, slice_get, unwrap_or, IfOk, Ok, Err};
 ghost use Rattle.std.specs.Int.{w16, w32};
 ghost use Rattle.tdl_ecode.specs.declared.instr.EInstr.{EInstr};
 ghost use Rattle.tdl_ecode.specs.Spelling.{einstr_bytes, BeginsWith, IsUnfinished, HasNoOpcode};
-ghost use Rattle.tdl_ecode.specs.Reading.{reading, instr_at, in_order, known, number_at, two};
+ghost use Rattle.tdl_ecode.specs.Reading.{reading, instr_at, by_opcode, number_at, two};
 
 use crate::{EInstr, InstrFault, instr_len};
 
-/// The instruction that the bytes begin with, and how many bytes its spelling has; bytes may follow
-/// it. `Short` exactly where the bytes end within an instruction, as none do, and `Unknown` exactly
-/// where the first byte is no opcode. It takes no memory.
+/// The instruction that the bytes begin with, and the length of its spelling in bytes; more bytes
+/// may follow. `Short` exactly where the bytes end before an instruction does, as no bytes at all
+/// do, and `Unknown` exactly where the first byte is no opcode. It takes no memory.
 pub fn get_instr(bytes: &[u8]) -> Result<(EInstr, usize), InstrFault>
     ensures begins { IfOk result (λ r. BeginsWith bytes.now r.0) }
     ensures len { IfOk result (λ r. r.1 ≡ length (einstr_bytes r.0)) }
@@ -37,7 +37,7 @@ fn read_instr(bytes: &[u8]) -> Result<EInstr, InstrFault>
 }
 
 fn read_operands(opcode: u8, bytes: &[u8]) -> Result<EInstr, InstrFault>
-    ensures { result ≡ known (slice_get (in_order bytes.now) opcode) }
+    ensures { result ≡ unwrap_or (slice_get (by_opcode bytes.now) opcode) (Err InstrFault.Unknown) }
 {
     match opcode {
         0 => Ok(EInstr::Return),
@@ -117,15 +117,25 @@ mod tests {
             (EInstr::End(0xfffe), b"\x03\xff\xfe".as_slice()),
             (EInstr::Take(0x0500), b"\x04\x05\x00".as_slice()),
             (EInstr::Mode(6), b"\x05\x00\x06".as_slice()),
-            (EInstr::If(7, 0x0102_0304), b"\x06\x00\x07\x01\x02\x03\x04".as_slice()),
+            (
+                EInstr::If(7, 0x0102_0304),
+                b"\x06\x00\x07\x01\x02\x03\x04".as_slice(),
+            ),
             (EInstr::Jump(9), b"\x07\x00\x00\x00\x09".as_slice()),
-            (EInstr::Future(5000, 2), b"\x08\x00\x00\x13\x88\x00\x00\x00\x02".as_slice()),
+            (
+                EInstr::Future(5000, 2),
+                b"\x08\x00\x00\x13\x88\x00\x00\x00\x02".as_slice(),
+            ),
         ];
         for (i, bytes) in rows {
             assert_eq!(rt; spelled(rt.alloc(), i)?.as_slice(), bytes, "{i:?}");
             assert_eq!(rt; get_instr(bytes), Ok((i, bytes.len())), "{i:?}");
             for len in 0..bytes.len() {
-                assert_eq!(rt; get_instr(&bytes[..len]), Err(InstrFault::Short), "{i:?} {len}");
+                assert_eq!(rt;
+                    get_instr(&bytes[..len]),
+                    Err(InstrFault::Short),
+                    "{i:?} {len}"
+                );
             }
         }
         Ok(())

@@ -10,11 +10,8 @@ pub fn instr_len(i: &EInstr) -> usize
 {
     match i {
         EInstr::Return => 1,
-        EInstr::Call(_)
-        | EInstr::Release(_)
-        | EInstr::End(_)
-        | EInstr::Take(_)
-        | EInstr::Mode(_) => 3,
+        EInstr::Call(_) | EInstr::Release(_) | EInstr::End(_) | EInstr::Take(_) | EInstr::Mode(_) =>
+            3,
         EInstr::Jump(_) => 5,
         EInstr::If(_, _) => 7,
         EInstr::Future(_, _) => 9,

@@ -89,7 +89,7 @@ counting_bundle = record { images = record { node = codes "n1"; declared = 11; s
   entry = 0 } ∷ [] } ∷ [] }
 
 -- the code of the body
-body_adds : body_code (record { stmts = stmt.Assign 1 sum_cells ∷ [] }) ≡ adds.instrs
+pub body_adds : body_code (record { stmts = stmt.Assign 1 sum_cells ∷ [] }) ≡ adds.instrs
 body_adds =
     body_code-stmts (stmt.Assign 1 sum_cells ∷ [])
     ∙ ap (λ t. t ++ []) (stmt_code-assign 1 sum_cells ∙ ap (λ t. t ++ instr.Store 1 ∷ [])

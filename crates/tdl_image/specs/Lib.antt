@@ -1,0 +1,4 @@
+pub mod Spelling
+pub mod Identifiers
+pub mod Spellable
+pub mod Example

@@ -1,2 +1,3 @@
 pub mod PlainSteps
 pub mod PlainMeaning
+pub mod PlainRealises

@@ -1,5 +1,5 @@
 -- The machine of a plain program shows its logical rows.
-use Rattle.std.proofs.Common.{◌≡◌, ◌<◌, ◌≤◌, ◌+◌, ◌-◌, ℕ, suc, zero, ℤ, pos, Bool, true, false, ◌&&◌, nat_le, nat_lt, eqb, List, [], ◌∷◌, ◌++◌, filter, Option, Some, None, refl, ap, ap₂, sym, ◌∙◌, ◌≢◌, subst, arith, append-nil, ◌⊎◌, inl, inr}
+use Rattle.std.proofs.Common.{◌≡◌, ◌<◌, ◌≤◌, ◌+◌, ◌-◌, ℕ, suc, zero, ℤ, pos, Bool, true, false, eqb, List, [], ◌∷◌, ◌++◌, filter, Option, None, refl, ap, ap₂, sym, ◌∙◌, ◌≢◌, subst, arith, append-nil, ⊎_elim}
 use Rattle.std.proofs.lemmas.Bool.{ne_eqb, eq-eqb}
 use Rattle.std.proofs.lemmas.Bool.Decides.{nat_tests, eqb_tells}
 use Rattle.std.proofs.lemmas.List.Elements.{filter-append}
@@ -16,11 +16,10 @@ use Rattle.tdl_walk.specs.PlainState.{plain_state, sum_of}
 use Rattle.tdl_walk.specs.Kept.{IsRunnable}
 use Rattle.tdl_walk.proofs.Laws as law
 use Rattle.tdl_verify.specs.States.{Slot, Times, Sensed, Stretch}
-use Rattle.tdl_verify.specs.Micros.{opened, ran_rows, closed}
-use Rattle.tdl_verify.specs.Runs.{System, Run, Now, Micros, all_micros, instant, next_instant, run_to, gone_on, no_loss, is_plain, machine_run}
-use Rattle.tdl_gen.specs.Realises.{IsAlive, IsRunOf, rows_of}
+use Rattle.tdl_verify.specs.Runs.{System, Run, Now, Micros, all_micros, next_instant, run_to, gone_on, no_loss, is_plain}
+use Rattle.tdl_gen.specs.Realises.{IsAlive, IsWithinWorst, HasMeaning}
 use Rattle.tdl_meaning.specs.PlainBundle.{plain_bundle, plain_system}
-use Rattle.tdl_meaning.proofs.PlainSteps.{starts, starts_rows, rests, turns, walked, ran_none, turn_plain, works, completes, waits_in, waits_behind, in_window, nodes, node_of, turn_rows, ready}
+use Rattle.tdl_meaning.proofs.PlainSteps.{starts, starts_rows, rests, turns, walked, ran_none, turn_plain, works, completes, waits_in, waits_behind, in_window, nodes, node_of, turn_rows}
 
 -- how far a job is: so many microseconds are left, or it is done
 pub data Work : Type 0 where
@@ -71,12 +70,14 @@ moves f x b n o i (Work.Working (suc zero)) running le fits = record {
   later = Work.Finished;
   open_stretch = _;
   moved = completes f x b n o i running (in_window_true f b x le (omega (arith, le, fits.1)));
-  fitting = tt }
+  fitting = tt;
+}
 moves f x b n o i (Work.Working (suc (suc left))) running le fits = record {
   later = Work.Working (suc left);
   open_stretch = _;
   moved = works f x b n left o (i ∷ o ∷ []) running (in_window_true f b x le (omega (arith, le, fits.1)));
-  fitting = (omega arith, omega (arith, le, fits.1)) }
+  fitting = (omega arith, omega (arith, le, fits.1));
+}
 moves f x b n o i Work.Finished running le fits = by_test (in_window f b x) refl
   where
     by_test : (t : Bool) → in_window f b x ≡ t → Moves f x b n o i Work.Finished running
@@ -94,7 +95,7 @@ rows_on : (xs ran turned L T : List Shown) → filter is_plain xs ≡ L → filt
 rows_on xs ran turned L T e g h =
     filter-append is_plain xs (ran ++ turned ++ [])
     ∙ ap₂ (λ (a b : List Shown). a ++ b) e
-      (ap (filter is_plain) (append-nil (ran ++ turned)) ∙ filter-append is_plain ran turned ∙ ap₂ (λ (a b : List Shown). a ++ b) g h)
+    (ap (filter is_plain) (append-nil (ran ++ turned)) ∙ filter-append is_plain ran turned ∙ ap₂ (λ (a b : List Shown). a ++ b) g h)
 
 logical_next : (f : Form) (course : Course) (x : ℕ) (L T : List Shown) → logical_rows (program_of f) (one_node (program_of f)) course x ≡ L →
     rows_at (program_of f) (one_node (program_of f)) course (suc x) ≡ T → logical_rows (program_of f) (one_node (program_of f)) course (suc x) ≡ L ++ T
@@ -107,7 +108,7 @@ went : (f : Form) (horizon x b n : ℕ) (o : ℤ) (slot : Slot) (running : Optio
     record { rows = r.rows ++ q.rows; sendings = r.sendings ++ q.sendings; now = q.now } ≡ gone_on (next_instant horizon x sensed times no_loss) r
 went f horizon x b n o slot running sensed times r q e g =
     sym (gone (next_instant horizon x sensed times no_loss) r (plain_system f b o slot n running) e
-      ∙ ap (λ (p : Run). record { rows = r.rows ++ p.rows; sendings = r.sendings ++ p.sendings; now = p.now }) g)
+    ∙ ap (λ (p : Run). record { rows = r.rows ++ p.rows; sendings = r.sendings ++ p.sendings; now = p.now }) g)
 
 module _ (f : Form) (course : Course) (times : Times) (horizon : ℕ) (runnable : IsRunnable f) (in_time : InTime f times) where
   -- an instant at which no cycle ends
@@ -116,23 +117,110 @@ module _ (f : Form) (course : Course) (times : Times) (horizon : ℕ) (runnable 
       Shows f course (suc x) (gone_on (next_instant horizon x (course (suc x)) times no_loss) r)
   rest_shows x r s m apart =
       subst (λ (q : Run). Shows f course (suc x) q)
-        (went f horizon x s.base s.released s.output (slot_of s.output s.input s.work) s.running (course (suc x)) times r _ s.now
-          (walked f horizon x s.base s.released s.output (slot_of s.output s.input s.work) (slot_of s.output s.input m.later) s.running m.open_stretch (course (suc x)) times m.moved
-            ∙ rests f (suc x) s.base s.released s.output (slot_of s.output s.input m.later) _ _ (course (suc x)) times apart.0))
-        (record {
-          base = s.base;
-          output = s.output;
-          input = s.input;
-          work = m.later;
-          released = s.released;
-          running = _;
-          now = refl;
-          logical = law.state_at-next f course x _ _ s.logical
+      (went f horizon x s.base s.released s.output (slot_of s.output s.input s.work) s.running (course (suc x)) times r _ s.now
+      (walked f horizon x s.base s.released s.output (slot_of s.output s.input s.work) (slot_of s.output s.input m.later) s.running m.open_stretch (course (suc x)) times m.moved
+      ∙ rests f (suc x) s.base s.released s.output (slot_of s.output s.input m.later) _ _ (course (suc x)) times apart.0))
+      (record {
+        base = s.base;
+        output = s.output;
+        input = s.input;
+        work = m.later;
+        released = s.released;
+        running = _;
+        now = refl;
+        logical = law.state_at-next f course x _ _ s.logical
             (law.rests f (suc x) s.base (course (suc x)) s.output s.input apart.0 (ne_eqb _ _ (λ e. omega (arith, e, s.begun))));
-          begun = omega (arith, s.begun);
-          within = omega (arith, s.within, apart.1);
-          fits = m.fitting;
-          rows = rows_on r.rows _ [] _ [] s.rows (ran_none horizon (suc x) _) refl
+        begun = omega (arith, s.begun);
+        within = omega (arith, s.within, apart.1);
+        fits = m.fitting;
+        rows = rows_on r.rows _ [] _ [] s.rows (ran_none horizon (suc x) (node_of f s.base s.output (slot_of s.output s.input m.later) s.released m.open_stretch)) refl
             ∙ sym (logical_next f course x _ [] refl
-              (law.rows_at-next f course x _ _ s.logical
-                (law.no_row f (suc x) s.base (course (suc x)) s.output s.input apart.0 (ne_eqb _ _ (λ e. omega (arith, e, s.begun)))))) })
+            (law.rows_at-next f course x _ _ s.logical
+            (law.no_row f (suc x) s.base (course (suc x)) s.output s.input apart.0 (ne_eqb _ _ (λ e. omega (arith, e, s.begun))))));
+      })
+
+  -- where a cycle ends, its job is done
+  finished : (x b : ℕ) (later : Work) → Fitting f (suc x - b) later → b + period_us f ≡ suc x → later ≡ Work.Finished
+  finished x b (Work.Working left) fits e = absurd (omega (arith, fits.0, fits.1, e, runnable.within))
+  finished x b Work.Finished fits e = refl
+
+  -- an instant at which a cycle ends
+  turn_shows : (x : ℕ) (r : Run) (s : Shows f course x r) (m : Moves f x s.base s.released s.output s.input s.work s.running) →
+      (eqb (s.base + period_us f) (suc x) ≡ true) × (s.base + period_us f ≡ suc x) →
+      Shows f course (suc x) (gone_on (next_instant horizon x (course (suc x)) times no_loss) r)
+  turn_shows x r s m here =
+      subst (λ (q : Run). Shows f course (suc x) q)
+      (went f horizon x s.base s.released s.output (slot_of s.output s.input s.work) s.running (course (suc x)) times r _ s.now
+      (walked f horizon x s.base s.released s.output (slot_of s.output s.input s.work) (Slot.Done 0 1 (sum_of s.output s.input ∷ [])) s.running m.open_stretch (course (suc x)) times
+      (m.moved ∙ ap (λ (w : Work). Micros.Walked (nodes f s.base s.output (slot_of s.output s.input w) s.released m.open_stretch)) (finished x s.base m.later m.fitting here.1))
+      ∙ turns f (suc x) s.base s.released s.output (sum_of s.output s.input) _ _ (course (suc x)) times here.0 (eq-eqb _ _ (omega arith)) (ne_eqb _ _ (λ e. omega (arith, e, runnable.worst, runnable.within)))))
+      (record {
+        base = suc x;
+        output = sum_of s.output s.input;
+        input = narrowed Int (course (suc x) 0 0);
+        work = Work.Working (times 0 0 (suc s.released));
+        released = suc s.released;
+        running = _;
+        now = refl;
+        logical = law.state_at-next f course x _ _ s.logical
+            (law.turns f (suc x) s.base (course (suc x)) s.output s.input here.0 (eq-eqb _ _ (omega arith)));
+        begun = omega arith;
+        within = omega (arith, runnable.worst, runnable.within);
+        fits = ((in_time (suc s.released)).0, omega (arith, (in_time (suc s.released)).1));
+        rows = rows_on r.rows _ (turn_rows f (suc x) (sum_of s.output s.input) ++ []) _ _ s.rows
+            (ran_none horizon (suc x) (node_of f s.base s.output (Slot.Done 0 1 (sum_of s.output s.input ∷ [])) s.released m.open_stretch))
+            (turn_plain f (suc x) (sum_of s.output s.input))
+            ∙ sym (logical_next f course x _ _ refl
+            (law.rows_at-next f course x _ _ s.logical
+            (law.one_row f (suc x) s.base (course (suc x)) s.output s.input here.0 (eq-eqb _ _ (omega arith)))));
+      })
+
+  -- one more instant
+  next_shows : (x : ℕ) (r : Run) → Shows f course x r → Shows f course (suc x) (gone_on (next_instant horizon x (course (suc x)) times no_loss) r)
+  next_shows x r s =
+      ⊎_elim (turn_shows x r s (moves f x s.base s.released s.output s.input s.work s.running s.begun s.fits))
+      (rest_shows x r s (moves f x s.base s.released s.output s.input s.work s.running s.begun s.fits))
+      (eqb_tells (s.base + period_us f) (suc x))
+
+  -- a cycle takes time
+  lasts : eqb (0 + period_us f) 0 ≡ false
+  lasts = ne_eqb _ _ (λ e. omega (arith, e, runnable.worst, runnable.within))
+
+  -- instant 0
+  first_shows : Shows f course 0 (run_to (plain_bundle f) horizon course times no_loss 0)
+  unfolding run_to logical_rows
+  first_shows = record {
+    base = 0;
+    output = pos f.initial;
+    input = narrowed Int (course 0 0 0);
+    work = Work.Working (times 0 0 1);
+    released = 1;
+    running = None;
+    now = starts f (course 0) times lasts;
+    logical = law.state_at-first f course;
+    begun = omega arith;
+    within = omega (arith, runnable.worst, runnable.within);
+    fits = ((in_time 1).0, omega (arith, (in_time 1).1));
+    rows = starts_rows f (course 0) times lasts ∙ sym (law.rows_at-first f course);
+  }
+
+  -- every instant
+  shows_all : (x : ℕ) → Shows f course x (run_to (plain_bundle f) horizon course times no_loss x)
+  unfolding run_to
+  shows_all zero = first_shows
+  shows_all (suc x) = next_shows x _ (shows_all x)
+
+-- a run that shows is alive
+alive : (f : Form) (course : Course) (x : ℕ) (r : Run) → Shows f course x r → IsAlive r.now
+alive f course x r s = subst IsAlive (sym s.now) tt
+
+-- the times of the program's jobs are those of its task
+task_in_time : (f : Form) (times : Times) → IsWithinWorst (program_of f) times → InTime f times
+task_in_time f times within k = within 0 0 k f.worst refl
+
+-- the plain program's bundle means the plain program
+pub means : (f : Form) → IsRunnable f → HasMeaning (plain_bundle f) (program_of f) (one_node (program_of f))
+means f runnable horizon course times within = record {
+  alive = alive f course horizon _ (shows_all f course times horizon runnable (task_in_time f times within) horizon);
+  rows = (shows_all f course times horizon runnable (task_in_time f times within) horizon).rows;
+}

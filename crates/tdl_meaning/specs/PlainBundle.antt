@@ -14,13 +14,21 @@ use Rattle.tdl_deploy.specs.declared.schedule.Schedule.{Schedule}
 use Rattle.tdl_deploy.specs.declared.schedule.Resource.TheVariants.{Cpu}
 use Rattle.tdl_plain.specs.declared.form.Form.{Form}
 use Rattle.tdl_plain.specs.PlainProgram.{period_us}
-use Rattle.tdl_verify.specs.States.{Slot, TaskNow, HostNow, Part, Stretch, NodeNow}
+use Rattle.tdl_verify.specs.States.{Slot, Part, Stretch}
 use Rattle.tdl_verify.specs.Runs.{System}
 
 -- the task has the processor from the start of each cycle, for its worst case
 abbrev pub plain_schedule : Form → Schedule
-plain_schedule f = record { windows = record {
-  resource = Cpu; «module» = record { 0 = 0 }; mode = record { 0 = 0 }; invocation = 1; offset = 0; length = f.worst } ∷ [] }
+plain_schedule f = record {
+  windows = record {
+    resource = Cpu;
+    «module» = record { 0 = 0 };
+    mode = record { 0 = 0 };
+    invocation = 1;
+    offset = 0;
+    length = f.worst;
+  } ∷ [];
+}
 
 -- the sum of the cells, into the output
 abbrev pub add_code : Code
@@ -46,7 +54,8 @@ plain_table f = record {
   inputs = Int ∷ [];
   outputs = record { kind = Int; name = f.output; initial = pos f.initial } ∷ [];
   locals = [];
-  body = add_code }
+  body = add_code;
+}
 
 abbrev pub plain_hosted : Form → Hosted
 plain_hosted f = record {
@@ -62,7 +71,8 @@ plain_hosted f = record {
   drivers = [];
   windows = record { bus = false; mode = 0; invocation = 1; offset = 0; length = f.worst } ∷ [];
   blocks = plain_blocks f;
-  entry = 0 }
+  entry = 0;
+}
 
 -- the bundle of a plain program
 abbrev pub plain_bundle : Form → Bundle
@@ -78,7 +88,10 @@ plain_system f base output slot released running = record {
       base = base;
       trigger = Some (record { at = base + period_us f; block = 2 });
       tasks = record { outputs = output ∷ []; slot = slot; released = released } ∷ [];
-      actuators = [] }) ∷ [];
-    running = running } ∷ [];
+      actuators = [];
+    }) ∷ [];
+    running = running;
+  } ∷ [];
   flight = None;
-  sent = 0 }
+  sent = 0;
+}

@@ -1,4 +1,4 @@
-use Rattle.std.proofs.Common.{◌≡◌, ℕ, sym, ◌∙◌, arith}
+use Rattle.std.proofs.Common.{sym, ◌∙◌, arith}
 use Rattle.tdl_ecode.proofs.Readings.{reading_begins, reading_only}
 use Rattle.tdl_ecode.proofs.Unfinished.{short_is, short_from, unknown_is, unknown_from}
 use Rattle.tdl_ecode.proofs.read.get_instr.Goals as goal

@@ -1,0 +1,48 @@
+//! The spelling of a stub.
+ghost use Rattle.std.specs.Prelude.{⊤};
+ghost use Rattle.tdl_image.specs.Spelling.{stub_bytes, stub_task_bytes, receive_bytes};
+ghost use Rattle.tdl_image.specs.Spellable.{IsSpellableStub, IsSpellableStubTask};
+
+use crate::spelled::{Spelled, put_long_list, put_short_list, put_u16, put_u32};
+use crate::{Receive, Stub, StubTask};
+use tdl_base::NoMemory;
+
+impl Spelled for StubTask {
+    ghost spelling = { stub_task_bytes };
+
+    ghost spellable = { IsSpellableStubTask };
+
+    fn put(&self, into: &mut Vec<u8>) -> Result<(), NoMemory> {
+        put_u16(into, self.number)?;
+        self.name.put(into)?;
+        put_short_list(into, &self.outputs)
+    }
+}
+
+impl Spelled for Receive {
+    ghost spelling = { receive_bytes };
+
+    ghost spellable = { λ _. ⊤ };
+
+    fn put(&self, into: &mut Vec<u8>) -> Result<(), NoMemory> {
+        put_u16(into, self.mode)?;
+        put_u16(into, self.invocation)?;
+        put_u16(into, self.task)?;
+        put_u32(into, self.delta)?;
+        put_u32(into, self.block)
+    }
+}
+
+impl Spelled for Stub {
+    ghost spelling = { stub_bytes };
+
+    ghost spellable = { IsSpellableStub };
+
+    fn put(&self, into: &mut Vec<u8>) -> Result<(), NoMemory> {
+        put_u16(into, self.number.0)?;
+        self.name.put(into)?;
+        put_short_list(into, &self.tasks)?;
+        put_short_list(into, &self.entries)?;
+        put_long_list(into, &self.blocks)
+    }
+}

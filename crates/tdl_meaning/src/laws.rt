@@ -1,0 +1,19 @@
+//! The law of plain programs. Its function does nothing: its contract is the law.
+ghost use Rattle.std.specs.Prelude.{◌≡◌};
+ghost use Rattle.tdl_deploy.specs.Named.{one_node};
+ghost use Rattle.tdl_plain.specs.declared.form.Form.{Form};
+ghost use Rattle.tdl_plain.specs.PlainProgram.{program_of};
+ghost use Rattle.tdl_walk.specs.Kept.{IsRunnable};
+ghost use Rattle.tdl_gen.specs.Realises.{bundle_of, Realises};
+ghost use Rattle.tdl_meaning.specs.PlainBundle.{plain_bundle, plain_schedule};
+
+/// A plain program whose task has the processor for its worst case from the start of each cycle:
+/// its bundle is the compiler's, and realises it. Under every course of sensor values, with all
+/// execution times from 1 us to the worst case, and up to every horizon, the machine has no trap
+/// and shows exactly the logical rows.
+pub fn plain_bundles()
+    ensures made { (f : Form) → IsRunnable f →
+        bundle_of (program_of f) (one_node (program_of f)) (plain_schedule f) ≡ plain_bundle f }
+    ensures realises { (f : Form) → IsRunnable f →
+        Realises (plain_bundle f) (program_of f) (one_node (program_of f)) (plain_schedule f) }
+{}
