@@ -1,6 +1,5 @@
 -- The names of a module's blocks, calls, guards, drivers and releases. A number is the place of a name.
-use Rattle.std.specs.Prelude.{ℕ, zero, suc, Bool, true, false, ◌&&◌, ◌==◌, nat_lt, is_some, List, [], ◌∷◌, ◌++◌, map, filter, flat_map, Option, Some, None, if◌then◌else◌}
-use Rattle.tdl_body.specs.declared.tree.Expr.{Expr}
+use Rattle.std.specs.Prelude.{ℕ, suc, Bool, true, false, ◌&&◌, ◌==◌, nat_lt, is_some, List, [], ◌∷◌, ◌++◌, map, filter, flat_map, if◌then◌else◌}
 use Rattle.tdl_mode.specs.declared.program.Module.{Module}
 use Rattle.tdl_mode.specs.declared.program.Mode.{Mode}
 use Rattle.tdl_mode.specs.Offsets.{offsets, ascending}
@@ -70,9 +69,9 @@ driver_names m = activities (λ mode. map (λ u. u.act) mode.updates) m
 abbrev pub guard_names : Module → List InMode
 guard_names m =
     activities (λ mode.
-      map (λ i. i.act) (filter (λ i. is_some i.guard) mode.invocations)
-      ++ map (λ u. u.act) (filter (λ u. is_some u.guard) mode.updates)
-      ++ map (λ s. s.act) (filter (λ s. is_some s.guard) mode.switches)) m
+    map (λ i. i.act) (filter (λ i. is_some i.guard) mode.invocations)
+    ++ map (λ u. u.act) (filter (λ u. is_some u.guard) mode.updates)
+    ++ map (λ s. s.act) (filter (λ s. is_some s.guard) mode.switches)) m
 
 -- the invocations: a release for each
 abbrev pub release_names : Module → List InMode

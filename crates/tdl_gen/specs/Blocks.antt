@@ -1,5 +1,5 @@
 -- The blocks of a module: what is done at each offset of each mode, phase by phase.
-use Rattle.std.specs.Prelude.{ℕ, zero, suc, ◌+◌, ◌-◌, Bool, ◌==◌, ◌&&◌, List, [], ◌∷◌, ◌++◌, map, filter, length, flat_map, Option, Some, None, option_map, unwrap_or, slice_get, if◌then◌else◌}
+use Rattle.std.specs.Prelude.{ℕ, suc, ◌+◌, ◌-◌, ◌==◌, ◌&&◌, List, [], ◌∷◌, ◌++◌, map, filter, length, Option, Some, None, slice_get, if◌then◌else◌}
 use Rattle.std.specs.List.{list_any}
 use Rattle.tdl_body.specs.declared.tree.Expr.{Expr}
 use Rattle.tdl_ecode.specs.declared.instr.EInstr.{EInstr}
@@ -12,7 +12,7 @@ use Rattle.tdl_mode.specs.declared.program.Update.{Update}
 use Rattle.tdl_mode.specs.declared.program.Switch.{Switch}
 use Rattle.tdl_mode.specs.Offsets.{next_offset}
 use Rattle.tdl_mode.specs.States.{numbered}
-use Rattle.tdl_gen.specs.BlockNames.{BlockName, joined, block_names, block_number, call_names, driver_names, guard_names, release_names, number_in}
+use Rattle.tdl_gen.specs.BlockNames.{BlockName, joined, block_names, block_number, driver_names, guard_names, release_names, number_in}
 
 -- the instructions, behind an `if` to the instruction after them where the activity is guarded; the first has this index
 abbrev pub guarded : Module → ℕ → ℕ → Option Expr → ℕ → List EInstr → List EInstr
@@ -67,23 +67,28 @@ mode_block m None name = record { phase = 3; code = [] }
 mode_block m (Some mode) BlockName.Boot = record { phase = 3; code = [] }
 mode_block m (Some mode) (BlockName.Ends k o) = record {
   phase = 1;
-  code = map e.End (ending m mode o) ++ e.Future 0 (block_number m (BlockName.Updates k o)) ∷ e.Return ∷ [] }
+  code = map e.End (ending m mode o) ++ e.Future 0 (block_number m (BlockName.Updates k o)) ∷ e.Return ∷ [];
+}
 mode_block m (Some mode) (BlockName.Updates k o) = record {
   phase = 2;
-  code = laid (update_code m k) 0 (updates_at m mode o) ++ e.Future 0 (block_number m (BlockName.Switches k o)) ∷ e.Return ∷ [] }
+  code = laid (update_code m k) 0 (updates_at m mode o) ++ e.Future 0 (block_number m (BlockName.Switches k o)) ∷ e.Return ∷ [];
+}
 mode_block m (Some mode) (BlockName.Switches k o) = record {
   phase = 3;
-  code = laid (switch_code m k) 0 (switches_at mode o) ++ cycle_code m k mode o }
+  code = laid (switch_code m k) 0 (switches_at mode o) ++ cycle_code m k mode o;
+}
 mode_block m (Some mode) (BlockName.Starts k o) = record {
   phase = 4;
   code = laid (start_code m k) 0 (starting mode o)
-    ++ e.Future (next_offset mode o - o) (block_number m (BlockName.Ends k (next_offset mode o))) ∷ e.Return ∷ [] }
+      ++ e.Future (next_offset mode o - o) (block_number m (BlockName.Ends k (next_offset mode o))) ∷ e.Return ∷ [];
+}
 
 -- the block of a name
 abbrev pub block_of : Module → BlockName → Block
 block_of m BlockName.Boot = record {
   phase = 3;
-  code = e.Mode m.start.0 ∷ e.Future 0 (block_number m (BlockName.Starts m.start.0 0)) ∷ e.Return ∷ [] }
+  code = e.Mode m.start.0 ∷ e.Future 0 (block_number m (BlockName.Starts m.start.0 0)) ∷ e.Return ∷ [];
+}
 block_of m (BlockName.Ends k o) = mode_block m (slice_get m.modes k) (BlockName.Ends k o)
 block_of m (BlockName.Updates k o) = mode_block m (slice_get m.modes k) (BlockName.Updates k o)
 block_of m (BlockName.Switches k o) = mode_block m (slice_get m.modes k) (BlockName.Switches k o)

@@ -1,13 +1,12 @@
 -- The declared count of a node: the most instructions that its E-machine runs at one instant.
-use Rattle.std.specs.Prelude.{ℕ, ◌+◌, ◌*◌, ◌==◌, max, List, [], ◌∷◌, ◌++◌, map, filter, length, flat_map, sum, count_by, if◌then◌else◌}
+use Rattle.std.specs.Prelude.{ℕ, ◌+◌, ◌*◌, ◌==◌, max, List, [], ◌∷◌, map, length, sum, count_by, if◌then◌else◌}
 use Rattle.tdl_mode.specs.declared.program.Program.{Program}
 use Rattle.tdl_mode.specs.declared.program.Module.{Module}
-use Rattle.tdl_mode.specs.declared.program.Mode.{Mode}
 use Rattle.tdl_mode.specs.Offsets.{offsets}
 use Rattle.tdl_mode.specs.States.{numbered}
 use Rattle.tdl_deploy.specs.declared.placement.Placement.{Placement}
 use Rattle.tdl_deploy.specs.declared.schedule.Schedule.{Schedule}
-use Rattle.tdl_deploy.specs.Placed.{hosts, imports}
+use Rattle.tdl_deploy.specs.Placed.{hosts}
 use Rattle.tdl_image.specs.declared.stub.Stub.{Stub}
 use Rattle.tdl_image.specs.declared.stub.Receive.{Receive}
 use Rattle.tdl_gen.specs.BlockNames.{BlockName, joined}

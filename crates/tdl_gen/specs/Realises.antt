@@ -1,5 +1,5 @@
 -- What it is that a bundle realises a program.
-use Rattle.std.specs.Prelude.{◌≡◌, ◌≤◌, ◌<◌, ℕ, ℤ, List, [], ◌∷◌, map, filter, Option, Some, None, option_map, option_and_then, slice_get}
+use Rattle.std.specs.Prelude.{◌≡◌, ◌≤◌, ◌<◌, ℕ, List, map, filter, Option, Some, option_map, option_and_then, slice_get}
 use Rattle.tdl_mode.specs.declared.program.Program.{Program}
 use Rattle.tdl_mode.specs.States.{Course, numbered}
 use Rattle.tdl_deploy.specs.declared.placement.Placement.{Placement}
@@ -10,7 +10,7 @@ use Rattle.tdl_image.specs.declared.bundle.Bundle.{Bundle}
 use Rattle.tdl_image.specs.declared.bundle.Image.{Image}
 use Rattle.tdl_trace.specs.Shown.{Shown}
 use Rattle.tdl_verify.specs.States.{Times}
-use Rattle.tdl_verify.specs.Runs.{Run, Now, System, machine_run, no_loss, is_plain}
+use Rattle.tdl_verify.specs.Runs.{Run, Now, machine_run, no_loss, is_plain}
 use Rattle.tdl_gen.specs.Tables.{hosted_on, stubs_on}
 use Rattle.tdl_gen.specs.Counts.{declared_of}
 
@@ -20,7 +20,8 @@ image_of p pl s node n = record {
   node = n.name;
   declared = declared_of p pl s node;
   hosted = hosted_on p pl s node;
-  stubs = stubs_on p pl s node }
+  stubs = stubs_on p pl s node;
+}
 
 -- the bundle of a program, a placement and a schedule
 unfoldable pub bundle_of : Program → Placement → Schedule → Bundle

@@ -1,16 +1,13 @@
 -- The images of a program: its tables on each node.
-use Rattle.std.specs.Prelude.{ℕ, zero, suc, ◌+◌, ◌-◌, Bool, true, false, not, ◌==◌, ◌&&◌, ◌||◌, nat_lt, List, [], ◌∷◌, ◌++◌, map, filter, flat_map, find, Option, Some, None, option_map, unwrap_or, slice_get, if◌then◌else◌}
-use Rattle.tdl_base.specs.declared.kinds.Kind.{Kind}
+use Rattle.std.specs.Prelude.{ℕ, ◌+◌, ◌-◌, Bool, true, false, not, ◌==◌, ◌&&◌, ◌||◌, nat_lt, List, [], ◌∷◌, ◌++◌, map, filter, flat_map, find, Option, Some, None, option_map, unwrap_or, slice_get, if◌then◌else◌}
 use Rattle.tdl_body.specs.declared.tree.Expr.{Expr}
 use Rattle.tdl_mode.specs.declared.program.Program.{Program}
 use Rattle.tdl_mode.specs.declared.program.Module.{Module}
 use Rattle.tdl_mode.specs.declared.program.Mode.{Mode}
 use Rattle.tdl_mode.specs.declared.program.Task.{Task}
 use Rattle.tdl_mode.specs.declared.program.PortDef.{PortDef}
-use Rattle.tdl_mode.specs.declared.program.Invocation.{Invocation}
 use Rattle.tdl_mode.specs.States.{numbered}
 use Rattle.tdl_deploy.specs.declared.placement.Placement.{Placement}
-use Rattle.tdl_deploy.specs.declared.placement.PlacedNode.{PlacedNode}
 use Rattle.tdl_deploy.specs.declared.schedule.Schedule.{Schedule}
 use Rattle.tdl_deploy.specs.declared.schedule.Window.{Window}
 use Rattle.tdl_deploy.specs.declared.schedule.Resource.{Resource}
@@ -50,7 +47,8 @@ task_table t = record {
   inputs = map (λ p. p.kind) t.inputs;
   outputs = initials t.outputs;
   locals = map (λ p. p.kind) t.locals;
-  body = record { instrs = body_code t.body } }
+  body = record { instrs = body_code t.body };
+}
 
 abbrev pub mode_at : Module → ℕ → Option Mode
 mode_at m k = slice_get m.modes k
@@ -93,8 +91,8 @@ guard_of m name = unwrap_or (option_map (λ mode. first_of (guards_in mode name.
 abbrev pub release_of : Module → InMode → List ReleaseEntry
 release_of m name =
     unwrap_or (option_map
-      (λ mode. map (λ i. record { mode = name.mode; invocation = name.number; call = number_in (call_names m) name.mode i.act })
-        (listed (slice_get mode.invocations (name.number - 1)))) (mode_at m name.mode)) []
+    (λ mode. map (λ i. record { mode = name.mode; invocation = name.number; call = number_in (call_names m) name.mode i.act })
+    (listed (slice_get mode.invocations (name.number - 1)))) (mode_at m name.mode)) []
 
 abbrev pub is_bus : Resource → Bool
 is_bus Cpu = false
@@ -108,7 +106,7 @@ image_window w = record { bus = is_bus w.resource; mode = w.mode.0; invocation =
 abbrev pub is_before : ImageWindow → ImageWindow → Bool
 is_before v w =
     nat_lt v.mode w.mode || (v.mode == w.mode && (nat_lt v.invocation w.invocation || (v.invocation == w.invocation
-      && ((not v.bus && w.bus) || ((v.bus && w.bus || not v.bus && not w.bus) && nat_lt v.offset w.offset)))))
+    && ((not v.bus && w.bus) || ((v.bus && w.bus || not v.bus && not w.bus) && nat_lt v.offset w.offset)))))
 
 -- a window in its place among windows in order, behind its equals
 abbrev pub placed : ImageWindow → List ImageWindow → List ImageWindow
@@ -138,7 +136,8 @@ hosted_of s k m = record {
   drivers = flat_map (driver_of m) (driver_names m);
   windows = windows_of s k;
   blocks = blocks_of m;
-  entry = block_number m BlockName.Boot }
+  entry = block_number m BlockName.Boot;
+}
 
 -- the public tasks of a module, with their numbers
 abbrev pub stub_tasks : Module → List StubTask
@@ -148,20 +147,20 @@ stub_tasks m = joined (numbered 0 (λ t task. if task.public then record { numbe
 abbrev pub bus_end : Schedule → ℕ → ℕ → ℕ → ℕ
 bus_end s m k n =
     unwrap_or (option_map (λ w. w.offset + w.length)
-      (find (λ w. is_bus w.resource && (w.module.0 == m && (w.mode.0 == k && w.invocation == n))) s.windows)) 0
+    (find (λ w. is_bus w.resource && (w.module.0 == m && (w.mode.0 == k && w.invocation == n))) s.windows)) 0
 
 -- the invocations of a task in a mode, with what follows their frames' arrival; the blocks are numbered later
 abbrev pub receives_in : Schedule → ℕ → ℕ → ℕ → Mode → List Receive
 receives_in s m t k mode =
     joined (numbered 1 (λ n i. if i.task.0 == t
-      then record { mode = k; invocation = n; task = t; delta = i.e.0 - bus_end s m k n; block = 0 } ∷ []
-      else []) mode.invocations)
+    then record { mode = k; invocation = n; task = t; delta = i.e.0 - bus_end s m k n; block = 0 } ∷ []
+    else []) mode.invocations)
 
 -- an entry for each remote invocation, by task, mode and number, each with its own block
 abbrev pub receives : Program → Placement → Schedule → ℕ → Module → List Receive
 receives p pl s k m =
     numbered 0 (λ r (e : Receive). record e { block = r })
-      (joined (numbered 0 (λ t task. if is_remote p pl k task then joined (numbered 0 (receives_in s k t) m.modes) else []) m.tasks))
+    (joined (numbered 0 (λ t task. if is_remote p pl k task then joined (numbered 0 (receives_in s k t) m.modes) else []) m.tasks))
 
 -- the block of entry r
 abbrev pub take_block : ℕ → Block
@@ -174,7 +173,8 @@ stub_of p pl s k m = record {
   name = m.name;
   tasks = stub_tasks m;
   entries = receives p pl s k m;
-  blocks = map (λ (e : Receive). take_block e.block) (receives p pl s k m) }
+  blocks = map (λ (e : Receive). take_block e.block) (receives p pl s k m);
+}
 
 -- the modules that a node hosts, in order of their numbers
 abbrev pub hosted_on : Program → Placement → Schedule → ℕ → List Hosted

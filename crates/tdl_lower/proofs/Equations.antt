@@ -1,8 +1,7 @@
 -- The code of each kind of expression and statement.
-use Rattle.std.proofs.Common.{◌≡◌, ℕ, ℤ, List, [], ◌∷◌, ◌++◌, map, refl, ap}
+use Rattle.std.proofs.Common.{◌≡◌, ℕ, ℤ, List, [], ◌∷◌, ◌++◌, map}
 use Rattle.tdl_base.specs.declared.numbers.Place.{Place}
 use Rattle.tdl_base.specs.declared.arithmetic.BinOp.{BinOp}
-use Rattle.tdl_base.specs.declared.arithmetic.UnOp.{UnOp}
 use Rattle.tdl_body.specs.declared.tree.Expr.{Expr}
 use Rattle.tdl_body.specs.declared.tree.Expr.TheVariants as expr
 use Rattle.tdl_body.specs.declared.tree.Expr.TheOpen.{Expr-F}

@@ -1,5 +1,5 @@
 -- The code of an expression and of a body.
-use Rattle.std.specs.Prelude.{ℕ, ◌+◌, List, [], ◌∷◌, ◌++◌, length, Option, Some, None}
+use Rattle.std.specs.Prelude.{◌+◌, List, [], ◌∷◌, ◌++◌, length, Option, Some, None}
 use Rattle.tdl_body.specs.declared.tree.Expr.{Expr}
 use Rattle.tdl_body.specs.declared.tree.Expr.TheOpen.{Expr-F}
 use Rattle.tdl_body.specs.declared.tree.Expr.TheFolds.{fold-Expr}

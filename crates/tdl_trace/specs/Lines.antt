@@ -103,7 +103,6 @@ line_of names (Shown.Updated at node m a v) =
     head_of names at node (codes " act ") ++ module_name names m ++ codes "." ++ actuator_name names m a ++ value_end v
 line_of names (Shown.Entered at node m mode) =
     head_of names at node (codes " mode ") ++ module_name names m ++ codes " " ++ mode_name names m mode ++ codes "\n"
-
 line_of names (Shown.Sampled at node m k v) =
     head_of names at node (codes " sense ") ++ module_name names m ++ codes "." ++ sensor_name names m k ++ value_end v
 line_of names (Shown.Trapped at node why) = head_of names at node (codes " trap ") ++ why_name why ++ codes "\n"

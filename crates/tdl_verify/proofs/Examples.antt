@@ -1,5 +1,5 @@
 -- Closed runs of small bundles: each theorem says which rows a bundle's run has, or where it traps.
-use Rattle.std.proofs.Common.{◌≡◌, ℕ, suc, ℤ, pos, Bool, true, false, List, [], ◌∷◌, ◌++◌, filter, codes, refl}
+use Rattle.std.proofs.Common.{◌≡◌, ℕ, ℤ, pos, true, false, List, [], ◌∷◌, codes, refl}
 use Rattle.std.specs.Int.{int_wrap}
 use Rattle.tdl_base.specs.declared.kinds.Kind.TheVariants.{Int}
 use Rattle.tdl_base.specs.declared.numbers.Place.TheVariants.{Sensor, Port, Cell}
@@ -11,7 +11,6 @@ use Rattle.tdl_stack.specs.declared.instr.Code.{Code}
 use Rattle.tdl_ecode.specs.declared.instr.EInstr.TheVariants as e
 use Rattle.tdl_ecode.specs.declared.instr.Block.{Block}
 use Rattle.tdl_image.specs.declared.bundle.Bundle.{Bundle}
-use Rattle.tdl_image.specs.declared.bundle.Image.{Image}
 use Rattle.tdl_image.specs.declared.hosted.Hosted.{Hosted}
 use Rattle.tdl_image.specs.declared.hosted.TaskTable.{TaskTable}
 use Rattle.tdl_image.specs.declared.hosted.ImageWindow.{ImageWindow}
@@ -20,7 +19,7 @@ use Rattle.tdl_image.specs.declared.stub.Stub.{Stub}
 use Rattle.tdl_image.specs.declared.stub.Receive.{Receive}
 use Rattle.tdl_verify.specs.States.{Times}
 use Rattle.tdl_verify.specs.Turns.{turn}
-use Rattle.tdl_verify.specs.Runs.{instant, next_instant, run_to, machine_run, no_loss, plain_rows, logged_rows}
+use Rattle.tdl_verify.specs.Runs.{instant, next_instant, run_to, machine_run, no_loss, plain_rows}
 
 abbrev adds : Code
 adds = record { instrs = instr.Load (Cell 1) ∷ instr.Load (Cell 0) ∷ instr.Bin Add ∷ instr.Store 1 ∷ [] }
@@ -64,7 +63,8 @@ counter number modes releases guards windows blocks = record {
   drivers = [];
   windows = windows;
   blocks = blocks;
-  entry = 0 }
+  entry = 0;
+}
 
 abbrev first_release : ReleaseEntry
 first_release = record { mode = 0; invocation = 1; call = 0 }
@@ -121,7 +121,7 @@ is_busy = refl
 
 -- windows of two modules that are live in one microsecond
 two_live : plain_rows (machine_run (on_one 22
-      (counting (on_cpu 0 0 2 ∷ []) ∷ counter 1 (codes "main" ∷ []) (first_release ∷ []) [] (on_cpu 0 1 2 ∷ []) blocks ∷ [])) 5 ones worst no_loss) ≡
+    (counting (on_cpu 0 0 2 ∷ []) ∷ counter 1 (codes "main" ∷ []) (first_release ∷ []) [] (on_cpu 0 1 2 ∷ []) blocks ∷ [])) 5 ones worst no_loss) ≡
     Shown.Entered 0 0 0 0 ∷ Shown.Entered 0 0 1 0 ∷ Shown.Trapped 2 0 why.Clash ∷ []
 unfolding turn instant next_instant run_to int_wrap
 two_live = refl
@@ -154,7 +154,8 @@ reader = record {
   drivers = record { actuator = 0; value = reads_output } ∷ [];
   windows = [];
   blocks = reader_blocks;
-  entry = 0 }
+  entry = 0;
+}
 
 abbrev take_block : ℕ → Block
 take_block r = record { phase = 1; code = e.Take r ∷ e.Return ∷ [] }
@@ -166,7 +167,8 @@ stub_with entries blocks = record {
   name = codes "P";
   tasks = record { number = 0; name = codes "inc"; outputs = record { kind = Int; name = codes "o"; initial = pos 10 } ∷ [] } ∷ [];
   entries = entries;
-  blocks = blocks }
+  blocks = blocks;
+}
 
 abbrev first_entry : Receive
 first_entry = record { mode = 0; invocation = 1; task = 0; delta = 0; block = 0 }
@@ -174,8 +176,9 @@ first_entry = record { mode = 0; invocation = 1; task = 0; delta = 0; block = 0 
 abbrev on_two : Hosted → Stub → Bundle
 on_two p s = record {
   images = record { node = codes "n1"; declared = 20; hosted = p ∷ []; stubs = [] }
-    ∷ record { node = codes "n2"; declared = 20; hosted = reader ∷ []; stubs = s ∷ [] }
-    ∷ [] }
+      ∷ record { node = codes "n2"; declared = 20; hosted = reader ∷ []; stubs = s ∷ [] }
+      ∷ [];
+}
 
 -- the output appears on both nodes at 5, and C reads it at the same instant
 both_show : plain_rows (machine_run (on_two (counting (on_cpu 0 0 2 ∷ on_bus 0 4 1 ∷ [])) (stub_with (first_entry ∷ []) (take_block 0 ∷ []))) 5 ones worst no_loss) ≡
@@ -198,8 +201,8 @@ abbrev above_one : Code
 above_one = record { instrs = instr.Load (Sensor 0) ∷ instr.Const (pos 1) ∷ instr.Bin Greater ∷ [] }
 
 not_invoked : plain_rows (machine_run (on_two
-      (counter 0 (codes "main" ∷ []) (first_release ∷ []) (above_one ∷ []) (on_cpu 0 0 2 ∷ on_bus 0 4 1 ∷ []) guarded_blocks)
-      (stub_with (first_entry ∷ []) (take_block 0 ∷ []))) 5 ones worst no_loss) ≡
+    (counter 0 (codes "main" ∷ []) (first_release ∷ []) (above_one ∷ []) (on_cpu 0 0 2 ∷ on_bus 0 4 1 ∷ []) guarded_blocks)
+    (stub_with (first_entry ∷ []) (take_block 0 ∷ []))) 5 ones worst no_loss) ≡
     Shown.Entered 0 0 0 0 ∷ Shown.Entered 0 1 1 0 ∷ Shown.Updated 5 1 1 0 (pos 10) ∷ []
 unfolding turn instant next_instant run_to int_wrap
 not_invoked = refl
@@ -219,9 +222,9 @@ switching_blocks =
     ∷ []
 
 switches : plain_rows (machine_run (on_two
-      (counter 0 (codes "main" ∷ codes "fast" ∷ []) (first_release ∷ record { mode = 1; invocation = 1; call = 0 } ∷ []) []
-        (on_cpu 0 0 2 ∷ on_bus 0 4 1 ∷ on_cpu 1 0 2 ∷ on_bus 1 2 1 ∷ []) switching_blocks)
-      (stub_with (first_entry ∷ record { mode = 1; invocation = 1; task = 0; delta = 0; block = 1 } ∷ []) (take_block 0 ∷ take_block 1 ∷ []))) 8 ones worst no_loss) ≡
+    (counter 0 (codes "main" ∷ codes "fast" ∷ []) (first_release ∷ record { mode = 1; invocation = 1; call = 0 } ∷ []) []
+    (on_cpu 0 0 2 ∷ on_bus 0 4 1 ∷ on_cpu 1 0 2 ∷ on_bus 1 2 1 ∷ []) switching_blocks)
+    (stub_with (first_entry ∷ record { mode = 1; invocation = 1; task = 0; delta = 0; block = 1 } ∷ []) (take_block 0 ∷ take_block 1 ∷ []))) 8 ones worst no_loss) ≡
     Shown.Entered 0 0 0 0 ∷ Shown.Entered 0 1 1 0
     ∷ Shown.Committed 5 0 0 0 0 (pos 11) ∷ Shown.Entered 5 0 0 1
     ∷ Shown.Committed 5 1 0 0 0 (pos 11) ∷ Shown.Updated 5 1 1 0 (pos 11)

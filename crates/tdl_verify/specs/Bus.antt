@@ -1,12 +1,12 @@
 -- The bus: which frames leave at an instant, and what a frame does where it arrives.
-use Rattle.std.specs.Prelude.{ℕ, suc, ◌+◌, ℤ, Bool, true, false, ◌&&◌, ◌==◌, List, [], ◌∷◌, ◌++◌, map, filter, flat_map, find, Option, Some, None, option_map, option_and_then, unwrap_or, slice_get, if◌then◌else◌}
+use Rattle.std.specs.Prelude.{ℕ, ◌+◌, ℤ, Bool, true, false, ◌&&◌, ◌==◌, List, [], ◌∷◌, map, filter, flat_map, find, Option, Some, None, option_map, option_and_then, unwrap_or, slice_get, if◌then◌else◌}
 use Rattle.tdl_base.specs.declared.kinds.Kind.{Kind}
 use Rattle.tdl_frame.specs.Frames.{Member, Frame}
 use Rattle.tdl_image.specs.declared.hosted.Hosted.{Hosted}
 use Rattle.tdl_image.specs.declared.hosted.ReleaseEntry.{ReleaseEntry}
 use Rattle.tdl_image.specs.declared.hosted.ImageWindow.{ImageWindow}
 use Rattle.tdl_image.specs.declared.stub.Receive.{Receive}
-use Rattle.tdl_verify.specs.States.{Slot, TaskNow, HostNow, EntryNow, StubNow, Part, NodeNow}
+use Rattle.tdl_verify.specs.States.{Slot, TaskNow, HostNow, EntryNow, Part, NodeNow}
 use Rattle.tdl_verify.specs.Turns.{is_mode}
 
 -- a frame on the bus: its number in order of sending from 1, when it was sent and until when it is there
@@ -31,7 +31,7 @@ starts_at x s w = w.bus && (is_mode w.mode s.mode && s.base + w.offset == x)
 abbrev pub task_of : Hosted → ℕ → ℕ → ℕ
 task_of h mode invocation =
     unwrap_or (option_map (λ c. c.task)
-      (option_and_then (λ (r : ReleaseEntry). slice_get h.calls r.call) (find (λ r. r.mode == mode && r.invocation == invocation) h.releases))) 0
+    (option_and_then (λ (r : ReleaseEntry). slice_get h.calls r.call) (find (λ r. r.mode == mode && r.invocation == invocation) h.releases))) 0
 
 -- the kinds of the outputs of a task
 abbrev pub output_kinds : Hosted → ℕ → List Kind

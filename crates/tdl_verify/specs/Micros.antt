@@ -1,13 +1,12 @@
 -- A microsecond of a node's processor.
-use Rattle.std.specs.Prelude.{ℕ, zero, suc, ◌+◌, ◌-◌, ℤ, Bool, true, false, not, ◌&&◌, ◌||◌, ◌==◌, nat_lt, nat_le, List, [], ◌∷◌, ◌++◌, map, filter, length, flat_map, Option, Some, None, option_map, unwrap_or, slice_get, if◌then◌else◌}
+use Rattle.std.specs.Prelude.{ℕ, zero, suc, ◌+◌, ℤ, Bool, true, false, not, ◌&&◌, ◌||◌, ◌==◌, nat_lt, nat_le, List, [], ◌∷◌, ◌++◌, map, filter, length, flat_map, Option, Some, None, option_map, unwrap_or, if◌then◌else◌}
 use Rattle.std.specs.List.{list_any}
 use Rattle.tdl_trace.specs.Shown.{Shown}
 use Rattle.tdl_stack.specs.Running.{Cells, outputs_after}
-use Rattle.tdl_image.specs.declared.hosted.Hosted.{Hosted}
 use Rattle.tdl_image.specs.declared.hosted.TaskTable.{TaskTable}
 use Rattle.tdl_image.specs.declared.hosted.ImageWindow.{ImageWindow}
-use Rattle.tdl_verify.specs.States.{Slot, TaskNow, Trigger, HostNow, Part, Stretch, NodeNow, numbered}
-use Rattle.tdl_verify.specs.Turns.{is_mode, first_of}
+use Rattle.tdl_verify.specs.States.{Slot, TaskNow, Trigger, HostNow, Part, Stretch, NodeNow}
+use Rattle.tdl_verify.specs.Turns.{is_mode}
 
 -- a processor window is live in the microsecond x
 abbrev pub is_live : ℕ → HostNow → ImageWindow → Bool

@@ -1,5 +1,5 @@
 -- The run of a bundle: all nodes, their processors and the bus, in every microsecond.
-use Rattle.std.specs.Prelude.{ℕ, zero, suc, ◌+◌, ℤ, Bool, true, false, not, ◌&&◌, ◌==◌, List, [], ◌∷◌, ◌++◌, map, filter, length, Option, Some, None, option_map, unwrap_or, if◌then◌else◌}
+use Rattle.std.specs.Prelude.{ℕ, zero, suc, Bool, true, false, ◌==◌, List, [], ◌∷◌, ◌++◌, map, filter, Option, Some, None, if◌then◌else◌}
 use Rattle.tdl_trace.specs.declared.why.Why.{Why}
 use Rattle.tdl_trace.specs.declared.why.Why.TheVariants as why
 use Rattle.tdl_trace.specs.Shown.{Shown}
@@ -92,8 +92,8 @@ put_on x k Start.Two None count = Sends.Refused k why.Clash
 put_on x k Start.Late None count = Sends.Refused k why.Late
 put_on x k (Start.Sends frame until) None count =
     Sends.Sent (Some (record { number = suc count; sent_at = x; until = until; frame = frame })) (suc count)
-      (Shown.Sent x k frame.owner frame.mode (invocation_of frame) (frame_bytes frame) ∷ [])
-      (record { number = suc count; at = x; until = until; frame = frame } ∷ [])
+    (Shown.Sent x k frame.owner frame.mode (invocation_of frame) (frame_bytes frame) ∷ [])
+    (record { number = suc count; at = x; until = until; frame = frame } ∷ [])
 
 -- what was sent so far, and what the nodes behind it send
 abbrev pub and_sends : Sends → (Option Flight → ℕ → Sends) → Sends
@@ -123,7 +123,8 @@ instant x sensed times lost ran s = after_turns (all_turns x sensed times 0 (lan
     after_sends nodes rows (Sends.Sent flight count sent sendings) = record {
       rows = ran ++ rows ++ sent;
       sendings = sendings;
-      now = Now.Alive (record { nodes = nodes; flight = flight; sent = count }) }
+      now = Now.Alive (record { nodes = nodes; flight = flight; sent = count });
+    }
 
     after_turns : Turns → Run
     after_turns (Turns.Stuck node reason) = dead node x reason

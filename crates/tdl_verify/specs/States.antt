@@ -1,11 +1,8 @@
 -- The state of a node: its hosted modules and stubs, each with its tables beside its state.
-use Rattle.std.specs.Prelude.{◌≡◌, ℕ, zero, suc, ℤ, pos, Bool, nat_lt, List, [], ◌∷◌, ◌++◌, map, Option, Some, None, option_map, unwrap_or, slice_get, slice_index_or, replicate, length, find, if◌then◌else◌, ◌==◌}
-use Rattle.tdl_base.specs.declared.kinds.Kind.{Kind}
+use Rattle.std.specs.Prelude.{ℕ, zero, suc, ℤ, pos, nat_lt, List, [], ◌∷◌, ◌++◌, map, Option, Some, None, option_map, unwrap_or, slice_get, slice_index_or, find, if◌then◌else◌, ◌==◌}
 use Rattle.tdl_base.specs.declared.numbers.PortKey.{PortKey}
 use Rattle.tdl_stack.specs.declared.instr.Code.{Code}
 use Rattle.tdl_stack.specs.Running.{Look, number_of}
-use Rattle.tdl_ecode.specs.declared.instr.EInstr.{EInstr}
-use Rattle.tdl_ecode.specs.declared.instr.Block.{Block}
 use Rattle.tdl_image.specs.declared.bundle.Image.{Image}
 use Rattle.tdl_image.specs.declared.bundle.Initial.{Initial}
 use Rattle.tdl_image.specs.declared.hosted.Hosted.{Hosted}
@@ -134,7 +131,8 @@ host_first h = Part.Host h (record {
   base = 0;
   trigger = Some (record { at = 0; block = h.entry });
   tasks = map task_first h.tasks;
-  actuators = initials h.actuators })
+  actuators = initials h.actuators;
+})
 
 -- the initial outputs of task t of a stub
 abbrev pub stub_initials : Stub → ℕ → List ℤ
@@ -144,7 +142,8 @@ stub_initials s t = unwrap_or (option_map (λ (k : StubTask). initials k.outputs
 abbrev pub stub_first : Stub → Part
 stub_first s = Part.Outside s (record {
   outputs = map (λ (t : StubTask). initials t.outputs) s.tasks;
-  entries = map (λ (e : Receive). record { copy = stub_initials s e.task; due = None }) s.entries })
+  entries = map (λ (e : Receive). record { copy = stub_initials s e.task; due = None }) s.entries;
+})
 
 -- a part in its place among parts of ascending number
 abbrev pub placed : Part → List Part → List Part
@@ -161,4 +160,5 @@ abbrev pub node_first : Image → NodeNow
 node_first image = record {
   declared = image.declared;
   parts = placed_all (map host_first image.hosted) (map stub_first image.stubs);
-  running = None }
+  running = None;
+}

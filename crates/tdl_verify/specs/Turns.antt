@@ -1,5 +1,5 @@
 -- The E-machine of a node at one instant: the due triggers, block by block, until none is due.
-use Rattle.std.specs.Prelude.{ℕ, zero, suc, ◌+◌, ℤ, pos, Bool, false, nat_eq, ◌&&◌, ◌==◌, List, [], ◌∷◌, ◌++◌, map, Option, Some, None, option_map, option_and_then, unwrap_or, slice_get, slice_index_or, replicate, length, if◌then◌else◌}
+use Rattle.std.specs.Prelude.{ℕ, zero, suc, ◌+◌, ℤ, pos, Bool, false, ◌&&◌, ◌==◌, List, [], ◌∷◌, ◌++◌, Option, Some, None, option_map, option_and_then, unwrap_or, slice_get, replicate, length, if◌then◌else◌}
 use Rattle.tdl_base.specs.declared.kinds.Kind.{Kind}
 use Rattle.tdl_base.specs.declared.kinds.Kind.TheVariants.{Long}
 use Rattle.tdl_base.specs.Numbers.{narrowed, is_true}
@@ -108,7 +108,7 @@ called x node value h s pc d = by_driver (slice_get h.drivers d)
     by_driver None = Acted.On (Part.Host h s) [] (suc pc)
     by_driver (Some r) =
         Acted.On (Part.Host h (record s { actuators = changed_at r.actuator (λ _. narrowed_to r.actuator (value r.value)) s.actuators }))
-          (Shown.Updated x node h.number.0 r.actuator (narrowed_to r.actuator (value r.value)) ∷ []) (suc pc)
+        (Shown.Updated x node h.number.0 r.actuator (narrowed_to r.actuator (value r.value)) ∷ []) (suc pc)
 
 -- a job of the release's mode and invocation starts, where the slot of its task is idle
 abbrev pub released : (Code → ℤ) → Times → Hosted → HostNow → ℕ → ℕ → Acted
@@ -117,8 +117,9 @@ released value times h s pc i = by_release (slice_get h.releases i)
     started : ReleaseEntry → CallEntry → TaskTable → TaskNow → TaskNow
     started r c table u = record u {
       slot = Slot.Ready r.mode r.invocation (times h.number.0 c.task (suc u.released))
-        (arguments value table.inputs c.args ++ u.outputs ++ replicate (length table.locals) (pos 0));
-      released = suc u.released }
+          (arguments value table.inputs c.args ++ u.outputs ++ replicate (length table.locals) (pos 0));
+      released = suc u.released;
+    }
 
     by_slot : ReleaseEntry → CallEntry → TaskTable → Slot → Acted
     by_slot r c table Slot.Idle = Acted.On (Part.Host h (record s { tasks = changed_at c.task (started r c table) s.tasks })) [] (suc pc)
@@ -145,7 +146,7 @@ ended x node h s pc t = by_slot (unwrap_or (option_map (λ u. u.slot) (slice_get
     by_slot (Slot.Ready mode invocation left cells) = Acted.Stop why.Late
     by_slot (Slot.Done mode invocation outputs) =
         Acted.On (Part.Host h (record s { tasks = changed_at t (λ (u : TaskNow). record u { outputs = outputs; slot = Slot.Idle }) s.tasks }))
-          (output_rows x node h.number.0 t outputs) (suc pc)
+        (output_rows x node h.number.0 t outputs) (suc pc)
 
 abbrev pub is_mode : ℕ → Option ℕ → Bool
 is_mode m None = false
@@ -155,7 +156,7 @@ is_mode m (Some k) = k == m
 abbrev pub entered : ℕ → ℕ → Hosted → HostNow → ℕ → ℕ → Acted
 entered x node h s pc m =
     Acted.On (Part.Host h (record s { mode = Some m; base = x }))
-      (if is_mode m s.mode then [] else Shown.Entered x node h.number.0 m ∷ []) (suc pc)
+    (if is_mode m s.mode then [] else Shown.Entered x node h.number.0 m ∷ []) (suc pc)
 
 -- an instruction of a hosted module
 abbrev pub host_acts : ℕ → ℕ → (Code → ℤ) → Times → Hosted → HostNow → ℕ → EInstr → Acted
@@ -182,7 +183,7 @@ took x node p s pc r = by_entry (slice_get p.entries r) (slice_get s.entries r)
     by_entry : Option Receive → Option EntryNow → Acted
     by_entry (Some e) (Some now) =
         Acted.On (Part.Outside p (record s { outputs = replaced e.task now.copy p.tasks s.outputs }))
-          (output_rows x node p.number.0 e.task now.copy) (suc pc)
+        (output_rows x node p.number.0 e.task now.copy) (suc pc)
     by_entry e now = Acted.On (Part.Outside p s) [] (suc pc)
 
 -- an instruction of a stub
