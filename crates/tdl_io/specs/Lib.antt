@@ -1,4 +1,5 @@
 pub mod MemFiles
 pub mod MemSink
 pub mod Outside
+pub mod QuietFiles
 pub mod Reading

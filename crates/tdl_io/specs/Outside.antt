@@ -39,6 +39,17 @@ abbrev pub IsLonger : Option Held → List ℕ → ℕ → Type 0
 IsLonger None name limit = ⊤
 IsLonger (Some held) name limit = limit < length (file_in held name)
 
+-- a name's file is these bytes, where the files tell what they hold
+abbrev pub Saves : Option Held → List ℕ → List ℕ → Type 0
+Saves None name bytes = ⊤
+Saves (Some held) name bytes = held name ≡ Some bytes
+
+-- no other name's file changes, where the files tell what they hold before and now; those that tell may stop
+abbrev pub KeepsOthers : Option Held → Option Held → List ℕ → Type 0
+KeepsOthers None now name = ⊤
+KeepsOthers (Some before) None name = ⊤
+KeepsOthers (Some before) (Some now) name = (other : List ℕ) → other ≢ name → now other ≡ before other
+
 -- for each name a count
 abbrev pub Counts : Type 0
 Counts = List ℕ → ℕ
@@ -48,6 +59,12 @@ abbrev pub NoCountFalls : Option Counts → Option Counts → Type 0
 NoCountFalls None now = ⊤
 NoCountFalls (Some before) None = ⊥
 NoCountFalls (Some before) (Some now) = (name : List ℕ) → before name ≤ now name
+
+-- no name's count changes, where the files tell these counts; those that tell go on telling
+abbrev pub NoCountChanges : Option Counts → Option Counts → Type 0
+NoCountChanges None now = ⊤
+NoCountChanges (Some before) None = ⊥
+NoCountChanges (Some before) (Some now) = (name : List ℕ) → now name ≡ before name
 
 -- no other name's count changes, where the files tell these counts; those that tell go on telling
 abbrev pub ChangesOnly : Option Counts → Option Counts → List ℕ → Type 0

@@ -1,9 +1,11 @@
-ghost use Rattle.std.specs.Prelude.{◌≡◌, ◌+◌, ◌<◌, ◌≤◌, ◌↔◌, [], length, take, OnOk, OnErr, IsErrOf};
+ghost use Rattle.std.specs.Prelude.{◌≡◌, ◌+◌, ◌<◌, ◌≤◌, ◌↔◌, [], ◌∷◌, length, take, OnOk, OnErr, IsErrOf};
 ghost use Rattle.std.specs.Option.{option_copied};
 ghost use Rattle.tdl_io.specs.Outside.{IsPart};
 ghost use Rattle.tdl_io.specs.MemFiles.{entries_of, held_in};
 
 use crate::FileAnswer;
+use std::alloc::Global;
+use tdl_base::NoMemory;
 
 /// What the first entry of the name holds.
 pub fn find_entry<'a>(entries: &'a [(String, Vec<u8>)], name: &str) -> Option<&'a [u8]>
@@ -15,6 +17,22 @@ pub fn find_entry<'a>(entries: &'a [(String, Vec<u8>)], name: &str) -> Option<&'
         }
     }
     None
+}
+
+/// Puts an entry before the others, so that it is the first of its name.
+pub fn add_entry(
+    alloc: Global,
+    entries: &mut Vec<(String, Vec<u8>)>,
+    name: &str,
+    bytes: &[u8],
+) -> Result<(), NoMemory>
+    ensures ok { OnOk result (entries_of entries.new.items
+        ≡ (name.now, bytes.now) ∷ entries_of entries.old.items) }
+    ensures err { OnErr result (entries.new.items ≡ entries.old.items) }
+{
+    let entry = (String::from_str(alloc, name)?, bytes.to_vec(alloc)?);
+    entries.insert(0, entry)?;
+    Ok(())
 }
 
 /// Reads the bytes of a file, or one more than the limit.

@@ -1,7 +1,8 @@
 ghost use Rattle.std.specs.Prelude.{◌≡◌, [], ℕ, ◌+◌, ◌<◌, ◌≤◌, length, OnOk, OnErr, IsErrOf};
 ghost use Rattle.std.specs.declared.option.Option.{Option};
 ghost use Rattle.tdl_io.specs.declared.files.FileAnswer.TheVariants.{NoMemory};
-ghost use Rattle.tdl_io.specs.Outside.{Held, Counts, Rose, Reads, ReadsPart, IsLonger, NoCountFalls, ChangesOnly, HasNamedCause};
+ghost use Rattle.tdl_io.specs.declared.files.SaveAnswer.TheVariants as save_answer;
+ghost use Rattle.tdl_io.specs.Outside.{Held, Counts, Rose, Reads, ReadsPart, IsLonger, Saves, KeepsOthers, NoCountFalls, NoCountChanges, ChangesOnly, HasNamedCause};
 
 use std::alloc::AllocError;
 use thiserror::Error;
@@ -36,6 +37,33 @@ impl From<tdl_base::NoMemory> for FileAnswer {
     }
 }
 
+/// Why a file was not saved.
+#[derive(Clone, Copy, Debug, PartialEq, Eq, Error)]
+pub enum SaveAnswer {
+    /// The files failed: their count of faults rose.
+    #[error("the file could not be written")]
+    Failed,
+    /// Memory could not be had.
+    #[error("no memory")]
+    NoMemory,
+}
+
+impl From<AllocError> for SaveAnswer {
+    ghost from_gives = { λ _ e. e ≡ save_answer.NoMemory };
+
+    fn from(_refused: AllocError) -> SaveAnswer {
+        SaveAnswer::NoMemory
+    }
+}
+
+impl From<tdl_base::NoMemory> for SaveAnswer {
+    ghost from_gives = { λ _ e. e ≡ save_answer.NoMemory };
+
+    fn from(_refused: tdl_base::NoMemory) -> SaveAnswer {
+        SaveAnswer::NoMemory
+    }
+}
+
 /// Files, by their names.
 pub trait Files {
     /// What they hold, or None where they do not tell it.
@@ -46,6 +74,9 @@ pub trait Files {
 
     /// For each name a count of its failed loads, or None where they do not tell it.
     ghost failed_loads: { Self → Option Counts };
+
+    /// For each name a count of its failed saves, or None where they do not tell it.
+    ghost failed_saves: { Self → Option Counts };
 
     /// Reads a whole file into `into`, which is empty at first; of an absent name nothing, where that
     /// is no fault. `limit` is the greatest length of the file, in bytes. Of a longer one at most one
@@ -71,5 +102,24 @@ pub trait Files {
         ensures later_by_name { NoCountFalls (failed_loads self.old) (failed_loads self.new) }
         ensures others { ChangesOnly (failed_loads self.old) (failed_loads self.new) name.now }
         ensures named_cause { IsErrOf result FileAnswer.Failed
-            → HasNamedCause (failed_loads self.old) (failed_loads self.new) name.now };
+            → HasNamedCause (failed_loads self.old) (failed_loads self.new) name.now }
+        ensures saves_stay { NoCountChanges (failed_saves self.old) (failed_saves self.new) };
+
+    /// Makes the bytes the whole file of a name, also of one that was absent, and changes no other
+    /// name. After a failure nothing is told of this name's file; without memory it is as it was.
+    /// Files that tell what they hold may stop telling it.
+    fn save(&mut self, name: &str, bytes: &[u8]) -> Result<(), SaveAnswer>
+        ensures saved { OnOk result (Saves (holds self.new) name.now bytes.now) }
+        ensures others_kept { KeepsOthers (holds self.old) (holds self.new) name.now }
+        ensures unchanged { IsErrOf result SaveAnswer.NoMemory → holds self.new ≡ holds self.old }
+
+        ensures later { faults self.old ≤ faults self.new }
+        ensures cause { IsErrOf result SaveAnswer.Failed
+            → Rose (faults self.old) (faults self.new) }
+
+        ensures later_by_name { NoCountFalls (failed_saves self.old) (failed_saves self.new) }
+        ensures others { ChangesOnly (failed_saves self.old) (failed_saves self.new) name.now }
+        ensures named_cause { IsErrOf result SaveAnswer.Failed
+            → HasNamedCause (failed_saves self.old) (failed_saves self.new) name.now }
+        ensures loads_stay { NoCountChanges (failed_loads self.old) (failed_loads self.new) };
 }

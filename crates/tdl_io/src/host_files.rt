@@ -3,15 +3,15 @@ ghost use Rattle.std.specs.Io.KnownBytes.{IsAtEnd};
 ghost use Rattle.tdl_io.specs.Outside.{IsPart};
 ghost use Rattle.tdl_io.specs.Reading.{Moves};
 
-use crate::{FileAnswer, Files};
+use crate::{FileAnswer, Files, SaveAnswer};
 use std::io::Read;
 use std::{fs, rt};
 
 /// How many bytes are read at once.
 const CHUNK: usize = 4096;
 
-/// The files of the host, and a count of the loads that failed, which stands still at the greatest
-/// u64. They tell neither what they hold nor counts by name.
+/// The files of the host, and a count of the loads and saves that failed, which stands still at the
+/// greatest u64. They tell neither what they hold nor counts by name.
 #[derive(Drop)]
 pub struct HostFiles<'a, R> {
     rt: &'a R,
@@ -19,7 +19,7 @@ pub struct HostFiles<'a, R> {
 }
 
 impl<'a, R: rt::Files> HostFiles<'a, R> {
-    /// No load has failed yet.
+    /// No call has failed yet.
     pub fn new(rt: &'a R) -> HostFiles<'a, R>
         ensures { ⟦<HostFiles<'a, R> as Files>⟧.faults result ≡ 0 }
     {
@@ -34,6 +34,8 @@ impl<R: rt::Files> Files for HostFiles<'_, R> {
 
     ghost failed_loads = { λ _. None };
 
+    ghost failed_saves = { λ _. None };
+
     /// A file that is absent or cannot be read, and a directory, have failed.
     fn load(&mut self, name: &str, limit: usize, into: &mut Vec<u8>) -> Result<(), FileAnswer> {
         let answer = read_named(self.rt, name, limit, into);
@@ -41,6 +43,18 @@ impl<R: rt::Files> Files for HostFiles<'_, R> {
             self.faults = self.faults.saturating_add(1);
         }
         answer
+    }
+
+    /// Creates the file, or empties it, and writes the bytes. After a failure it may hold a part of
+    /// them.
+    fn save(&mut self, name: &str, bytes: &[u8]) -> Result<(), SaveAnswer> {
+        match fs::write(self.rt, name, bytes) {
+            Ok(()) => Ok(()),
+            Err(_) => {
+                self.faults = self.faults.saturating_add(1);
+                Err(SaveAnswer::Failed)
+            }
+        }
     }
 }
 

@@ -14,7 +14,7 @@ mod null_sink;
 mod quiet_files;
 mod sink;
 
-pub use files::{FileAnswer, Files};
+pub use files::{FileAnswer, Files, SaveAnswer};
 pub use host_files::HostFiles;
 pub use host_sink::HostSink;
 pub use mem_files::MemFiles;

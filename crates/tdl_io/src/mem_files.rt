@@ -1,22 +1,32 @@
-ghost use Rattle.std.specs.Prelude.{◌≡◌, ◌++◌, ◌∷◌, ◌+◌, ◌<◌, ◌≤◌, ◌↔◌, ◌⊎◌, [], List, ℕ, ◌≢◌, Some, length, IsTrue, OnOk, OnErr, IsErrOf};
+ghost use Rattle.std.specs.Prelude.{◌≡◌, ◌++◌, ◌∷◌, ◌+◌, ◌<◌, ◌≤◌, ◌↔◌, ◌⊎◌, [], List, ℕ, ◌≢◌, Some, false, length, IsTrue, OnOk, OnErr, IsErrOf};
 ghost use Rattle.std.specs.Option.{option_copied};
 ghost use Rattle.tdl_io.specs.Outside.{IsPart, file_in, Rose};
-ghost use Rattle.tdl_io.specs.MemFiles.{entries_of, held_in, failures, failures_of, load_fails, after_load};
+ghost use Rattle.tdl_io.specs.MemFiles.{entries_of, held_in, failures, failures_of, is_told_to_fail, load_fails, after_call, after_load, after_save};
+ghost use Rattle.tdl_io.specs.declared.mem_files.CallKind.{CallKind};
+ghost use Rattle.tdl_io.specs.declared.mem_files.CallKind.TheVariants.{Load, Save};
 
-use crate::entries::{find_entry, read_up_to};
-use crate::{FileAnswer, Files};
+use crate::entries::{add_entry, find_entry, read_up_to};
+use crate::{FileAnswer, Files, SaveAnswer};
 use std::alloc::Global;
 use std::marker::Model;
 use tdl_base::{NoMemory, Text};
 
+/// What a call does.
+#[derive(Clone, Copy)]
+pub enum CallKind {
+    Load,
+    Save,
+}
+
 /// A call that was made.
 #[derive(Drop)]
 pub struct Call {
+    pub kind: CallKind,
     pub name: Text,
     pub failed: bool,
 }
 
-/// Files in memory, some of whose calls fail.
+/// Files in memory, some of whose calls fail. Loads and saves are counted together.
 #[derive(Drop)]
 pub struct MemFiles {
     alloc: Global,
@@ -59,12 +69,19 @@ impl MemFiles {
         find_entry(&self.files, name)
     }
 
-    /// Whether the next call fails as a load of this name.
-    fn fails(&self, name: &str) -> bool
-        ensures { result ≡ load_fails self.now name.now }
+    /// Whether the next call is told to fail.
+    fn is_told_to_fail(&self) -> bool
+        ensures { result ≡ is_told_to_fail self.now }
     {
         let number = (self.calls.len() as u64).saturating_add(1);
-        self.fail.contains(&number) || find_entry(&self.files, name).is_none()
+        self.fail.contains(&number)
+    }
+
+    /// Whether the next call fails as a load of this name.
+    fn load_fails(&self, name: &str) -> bool
+        ensures { result ≡ load_fails self.now name.now }
+    {
+        self.is_told_to_fail() || find_entry(&self.files, name).is_none()
     }
 }
 
@@ -73,7 +90,9 @@ impl Files for MemFiles {
 
     ghost faults = { λ f. failures f.calls };
 
-    ghost failed_loads = { λ f. Some (failures_of f.calls) };
+    ghost failed_loads = { λ f. Some (failures_of Load f.calls) };
+
+    ghost failed_saves = { λ f. Some (failures_of Save f.calls) };
 
     /// Records the call before it does anything else; one that finds no memory for its record is not
     /// counted. It fails exactly where it is told to, or where no such name is held.
@@ -100,14 +119,17 @@ impl Files for MemFiles {
         ensures cause { IsErrOf result FileAnswer.Failed
             → Rose (failures self.old.calls) (failures self.new.calls) }
         ensures later_by_name { (each : List ℕ)
-            → failures_of self.old.calls each ≤ failures_of self.new.calls each }
+            → failures_of Load self.old.calls each ≤ failures_of Load self.new.calls each }
         ensures others { (other : List ℕ) → other ≢ name.now
-            → failures_of self.new.calls other ≡ failures_of self.old.calls other }
+            → failures_of Load self.new.calls other ≡ failures_of Load self.old.calls other }
         ensures named_cause { IsErrOf result FileAnswer.Failed
-            → Rose (failures_of self.old.calls name.now) (failures_of self.new.calls name.now) }
+            → Rose (failures_of Load self.old.calls name.now)
+            (failures_of Load self.new.calls name.now) }
+        ensures saves_stay { (each : List ℕ)
+            → failures_of Save self.new.calls each ≡ failures_of Save self.old.calls each }
     {
-        let fails = self.fails(name);
-        add_call(self.alloc, &mut self.calls, name, fails)?;
+        let fails = self.load_fails(name);
+        add_call(self.alloc, &mut self.calls, CallKind::Load, name, fails)?;
         if fails {
             return Err(FileAnswer::Failed);
         }
@@ -116,12 +138,58 @@ impl Files for MemFiles {
         };
         read_up_to(bytes, limit, into)
     }
+
+    /// Records the call before it does anything else, as a load does. It fails exactly where it is
+    /// told to; a name may be absent. The file is held from then on in place of an older one of its
+    /// name.
+    fn save(&mut self, name: &str, bytes: &[u8]) -> Result<(), SaveAnswer>
+        ensures failed { IsErrOf result SaveAnswer.Failed → IsTrue (is_told_to_fail self.old) }
+        ensures fails { IsTrue (is_told_to_fail self.old)
+            → IsErrOf result SaveAnswer.Failed ⊎ IsErrOf result SaveAnswer.NoMemory }
+        ensures after { OnOk result (self.new ≡ after_save self.old name.now bytes.now) }
+        ensures after_failure { IsErrOf result SaveAnswer.Failed
+            → self.new ≡ after_save self.old name.now bytes.now }
+        ensures after_no_memory { IsErrOf result SaveAnswer.NoMemory
+            → (self.new ≡ self.old) ⊎ (self.new ≡ after_call self.old Save name.now false) }
+
+        // What every save ensures.
+        ensures saved { OnOk result (held_in self.new.entries name.now ≡ Some bytes.now) }
+        ensures others_kept { (other : List ℕ) → other ≢ name.now
+            → held_in self.new.entries other ≡ held_in self.old.entries other }
+        ensures unchanged { OnErr result (self.new.entries ≡ self.old.entries) }
+        ensures later { failures self.old.calls ≤ failures self.new.calls }
+        ensures cause { IsErrOf result SaveAnswer.Failed
+            → Rose (failures self.old.calls) (failures self.new.calls) }
+        ensures later_by_name { (each : List ℕ)
+            → failures_of Save self.old.calls each ≤ failures_of Save self.new.calls each }
+        ensures others { (other : List ℕ) → other ≢ name.now
+            → failures_of Save self.new.calls other ≡ failures_of Save self.old.calls other }
+        ensures named_cause { IsErrOf result SaveAnswer.Failed
+            → Rose (failures_of Save self.old.calls name.now)
+            (failures_of Save self.new.calls name.now) }
+        ensures loads_stay { (each : List ℕ)
+            → failures_of Load self.new.calls each ≡ failures_of Load self.old.calls each }
+    {
+        let fails = self.is_told_to_fail();
+        add_call(self.alloc, &mut self.calls, CallKind::Save, name, fails)?;
+        if fails {
+            return Err(SaveAnswer::Failed);
+        }
+        add_entry(self.alloc, &mut self.files, name, bytes)?;
+        Ok(())
+    }
 }
 
 /// Records a call behind those before it.
-fn add_call(alloc: Global, calls: &mut Vec<Call>, name: &str, failed: bool) -> Result<(), NoMemory>
+fn add_call(
+    alloc: Global,
+    calls: &mut Vec<Call>,
+    kind: CallKind,
+    name: &str,
+    failed: bool,
+) -> Result<(), NoMemory>
     ensures ok { OnOk result (calls.new.items
-        ≡ calls.old.items ++ record { name = name.now; failed = failed } ∷ []) }
+        ≡ calls.old.items ++ record { kind = kind; name = name.now; failed = failed } ∷ []) }
     ensures err { OnErr result (calls.new.items ≡ calls.old.items) }
 
     ensures later { failures calls.old.items ≤ failures calls.new.items }
@@ -129,13 +197,17 @@ fn add_call(alloc: Global, calls: &mut Vec<Call>, name: &str, failed: bool) -> R
         → Rose (failures calls.old.items) (failures calls.new.items)) }
 
     ensures later_by_name { (each : List ℕ)
-        → failures_of calls.old.items each ≤ failures_of calls.new.items each }
+        → failures_of kind calls.old.items each ≤ failures_of kind calls.new.items each }
     ensures others { (other : List ℕ) → other ≢ name.now
-        → failures_of calls.new.items other ≡ failures_of calls.old.items other }
+        → failures_of kind calls.new.items other ≡ failures_of kind calls.old.items other }
     ensures named_cause { OnOk result (IsTrue failed
-        → Rose (failures_of calls.old.items name.now) (failures_of calls.new.items name.now)) }
+        → Rose (failures_of kind calls.old.items name.now)
+        (failures_of kind calls.new.items name.now)) }
+    ensures other_kinds { (other : CallKind) → other ≢ kind → (each : List ℕ)
+        → failures_of other calls.new.items each ≡ failures_of other calls.old.items each }
 {
     calls.push(Call {
+        kind,
         name: Text::from_str(alloc, name)?,
         failed,
     })?;

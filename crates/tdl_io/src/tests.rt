@@ -2,8 +2,8 @@ ghost use Rattle.std.specs.Prelude.{◌≡◌, ◌<◌, ◌≤◌, ◌↔◌, �
 ghost use Rattle.tdl_io.specs.Outside.{Held, file_in, Rose, NoCountFalls, HasNamedCause, Appends, AppendsPart};
 
 use crate::{
-    FileAnswer, Files, HostFiles, HostSink, MemFiles, MemSink, NullSink, QuietFiles, Sink,
-    SinkFailed,
+    FileAnswer, Files, HostFiles, HostSink, MemFiles, MemSink, NullSink, QuietFiles, SaveAnswer,
+    Sink, SinkFailed,
 };
 use std::alloc::{AllocError, Global};
 use std::process::Abort;
@@ -64,6 +64,38 @@ fn load_two<F: Files>(
     Ok(())
 }
 
+/// Which call was refused of a save and of a load behind it.
+#[derive(Clone, Copy, Debug, PartialEq, Eq)]
+enum Refused {
+    Save(SaveAnswer),
+    Load(FileAnswer),
+}
+
+/// Where files tell what they hold behind a save, the saved bytes are loaded.
+fn save_and_load<F: Files>(
+    files: &mut F,
+    name: &str,
+    bytes: &[u8],
+    limit: usize,
+    into: &mut Vec<u8>,
+) -> Result<(), Refused>
+    requires { into.old.items ≡ [] }
+    ensures back { OnOk result ((held : Held) → F.holds files.new ≡ Some held
+        → into.new.items ≡ bytes.now) }
+    ensures save_cause { IsErrOf result (Refused.Save SaveAnswer.Failed)
+        → HasNamedCause (F.failed_saves files.old) (F.failed_saves files.new) name.now }
+    ensures saves_later { NoCountFalls (F.failed_saves files.old) (F.failed_saves files.new) }
+    ensures loads_later { NoCountFalls (F.failed_loads files.old) (F.failed_loads files.new) }
+{
+    if let Err(answer) = files.save(name, bytes) {
+        return Err(Refused::Save(answer));
+    }
+    if let Err(answer) = files.load(name, limit, into) {
+        return Err(Refused::Load(answer));
+    }
+    Ok(())
+}
+
 /// A sink holds both pieces, or the first piece and a part of the second one.
 fn put_two<S: Sink>(sink: &mut S, first: &[u8], second: &[u8]) -> Result<(), SinkFailed>
     ensures ok { OnOk result
@@ -117,6 +149,62 @@ fn check_loads(
         );
         assert_eq!(rt; into.as_slice(), bytes, "{name} within {limit}");
     }
+}
+
+/// Saves the bytes of each row under its name and loads them: the answer, and what was loaded.
+fn check_saves(
+    rt: &(impl Abort + AllocGlobal),
+    files: &mut impl Files,
+    rows: &[(&str, &[u8], Result<(), Refused>, &[u8])],
+) {
+    for (name, bytes, answer, loaded) in rows {
+        let mut into = Vec::new(rt.alloc());
+        assert_eq!(rt;
+            save_and_load(files, name, bytes, 9, &mut into),
+            *answer,
+            "{name}"
+        );
+        assert_eq!(rt; into.as_slice(), *loaded, "{name}");
+    }
+}
+
+#[test]
+fn files_in_memory_hold_what_is_saved(rt: HostRuntime) -> Result<(), Fail> {
+    let alloc = rt.alloc();
+    let rows = [
+        ("new", b"one".as_slice(), Ok(()), b"one".as_slice()),
+        ("a", b"".as_slice(), Ok(()), b"".as_slice()),
+        (
+            "empty",
+            b"xy".as_slice(),
+            Err(Refused::Save(SaveAnswer::Failed)),
+            b"".as_slice(),
+        ),
+        ("a", b"two".as_slice(), Ok(()), b"two".as_slice()),
+        (
+            "new",
+            b"z".as_slice(),
+            Err(Refused::Load(FileAnswer::Failed)),
+            b"".as_slice(),
+        ),
+        (
+            "long",
+            b"0123456789".as_slice(),
+            Err(Refused::Load(FileAnswer::TooLong)),
+            b"0123456789".as_slice(),
+        ),
+    ];
+    let mut files = MemFiles::new(alloc, entries(alloc)?, vec![in alloc; 5, 9]?);
+    check_saves(&rt, &mut files, &rows);
+    assert_eq!(rt; files.bytes("a"), Some(b"two".as_slice()));
+    assert_eq!(rt; files.bytes("empty"), Some(b"".as_slice()));
+    assert_eq!(rt; files.bytes("new"), Some(b"z".as_slice()));
+    let rows = [
+        ("a", b"new".as_slice(), Ok(()), b"abc".as_slice()),
+        ("fresh", b"x".as_slice(), Ok(()), b"".as_slice()),
+    ];
+    check_saves(&rt, &mut QuietFiles::new(entries(alloc)?), &rows);
+    Ok(())
 }
 
 #[test]
@@ -198,6 +286,34 @@ fn the_host_reads_files_in_chunks(rt: HostRuntime) -> Result<(), Fail> {
             "{name} within {limit}"
         );
     }
+    fs::remove_file(&rt, path.as_str())?;
+    Ok(())
+}
+
+#[test]
+fn the_host_writes_files_anew(rt: HostRuntime) -> Result<(), Fail> {
+    let alloc = rt.alloc();
+    let id = process::id(rt.process());
+    let path = format!(in alloc; "/tmp/tdl_io-saved-{id}")?;
+    let refused = Err(Refused::Save(SaveAnswer::Failed));
+    let rows = [
+        (
+            path.as_str(),
+            b"abcdef".as_slice(),
+            Ok(()),
+            b"abcdef".as_slice(),
+        ),
+        (path.as_str(), b"xyz".as_slice(), Ok(()), b"xyz".as_slice()),
+        (path.as_str(), b"".as_slice(), Ok(()), b"".as_slice()),
+        (
+            "/tmp/tdl_io-absent/file",
+            b"a".as_slice(),
+            refused,
+            b"".as_slice(),
+        ),
+        ("/tmp", b"a".as_slice(), refused, b"".as_slice()),
+    ];
+    check_saves(&rt, &mut HostFiles::new(&rt), &rows);
     fs::remove_file(&rt, path.as_str())?;
     Ok(())
 }
