@@ -28,6 +28,7 @@ names_at k mode o =
 abbrev pub block_names : Module → List BlockName
 block_names m = BlockName.Boot ∷ joined (numbered 0 (λ k mode. flat_map (names_at k mode) (offsets mode)) m.modes)
 
+-- two names of blocks are the same
 abbrev pub is_same : BlockName → BlockName → Bool
 is_same BlockName.Boot BlockName.Boot = true
 is_same (BlockName.Ends m o) (BlockName.Ends k p) = m == k && o == p
@@ -50,6 +51,7 @@ pub record InMode : Type 0 where
   pub mode : ℕ
   pub number : ℕ
 
+-- two names are of one mode and one number
 abbrev pub same_in_mode : InMode → InMode → Bool
 same_in_mode a b = a.mode == b.mode && a.number == b.number
 

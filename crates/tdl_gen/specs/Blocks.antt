@@ -32,6 +32,7 @@ ending m mode o = joined (numbered 0 (λ t task. if list_any (λ i. i.task.0 == 
 abbrev pub updates_at : Module → Mode → ℕ → List Update
 updates_at m mode o = joined (numbered 0 (λ a actuator. filter (λ u. u.actuator == a && u.at.0 == o) mode.updates) m.actuators)
 
+-- the switches at o, in order of the source
 abbrev pub switches_at : Mode → ℕ → List Switch
 switches_at mode o = filter (λ s. s.at.0 == o) mode.switches
 
@@ -44,13 +45,16 @@ pub record Numbered : Type 0 where
 abbrev pub starting : Mode → ℕ → List Numbered
 starting mode o = filter (λ n. n.invocation.s.0 == o) (numbered 1 (λ n i. record { number = n; invocation = i }) mode.invocations)
 
+-- the code of an update
 abbrev pub update_code : Module → ℕ → ℕ → Update → List EInstr
 update_code m k index u = guarded m k u.act u.guard index (e.Call (number_in (driver_names m) k u.act) ∷ [])
 
+-- the code of a switch
 abbrev pub switch_code : Module → ℕ → ℕ → Switch → List EInstr
 switch_code m k index s =
     guarded m k s.act s.guard index (e.Mode s.target.0 ∷ e.Future 0 (block_number m (BlockName.Starts s.target.0 0)) ∷ e.Return ∷ [])
 
+-- the code of a start
 abbrev pub start_code : Module → ℕ → ℕ → Numbered → List EInstr
 start_code m k index n =
     guarded m k n.invocation.act n.invocation.guard index (e.Release (number_in (release_names m) k n.number) ∷ [])
@@ -62,6 +66,7 @@ cycle_code m k mode o =
     then e.Mode k ∷ e.Future 0 (block_number m (BlockName.Starts k 0)) ∷ e.Return ∷ []
     else e.Future 0 (block_number m (BlockName.Starts k o)) ∷ e.Return ∷ []
 
+-- a block of a mode, where there is such a mode
 abbrev pub mode_block : Module → Option Mode → BlockName → Block
 mode_block m None name = record { phase = 3; code = [] }
 mode_block m (Some mode) BlockName.Boot = record { phase = 3; code = [] }

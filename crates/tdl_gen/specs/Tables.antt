@@ -31,15 +31,19 @@ use Rattle.tdl_lower.specs.Templates.{expr_code, body_code}
 use Rattle.tdl_gen.specs.BlockNames.{InMode, BlockName, joined, block_number, call_names, driver_names, guard_names, release_names, number_in}
 use Rattle.tdl_gen.specs.Blocks.{blocks_of}
 
+-- the code of an expression
 abbrev pub coded : Expr → Code
 coded expr = record { instrs = expr_code expr }
 
+-- the kinds and names of ports
 abbrev pub kind_names : List PortDef → List KindName
 kind_names ports = map (λ p. record { kind = p.kind; name = p.name }) ports
 
+-- the kinds, names and initial numbers of ports
 abbrev pub initials : List PortDef → List Initial
 initials ports = map (λ p. record { kind = p.kind; name = p.name; initial = p.initial }) ports
 
+-- the table of a task
 abbrev pub task_table : Task → TaskTable
 task_table t = record {
   name = t.name;
@@ -50,6 +54,7 @@ task_table t = record {
   body = record { instrs = body_code t.body };
 }
 
+-- the mode k of a module
 abbrev pub mode_at : Module → ℕ → Option Mode
 mode_at m k = slice_get m.modes k
 
@@ -79,6 +84,7 @@ guards_in mode a =
     ++ flat_map (λ u. map coded (listed u.guard)) (filter (λ u. u.act == a) mode.updates)
     ++ flat_map (λ s. map coded (listed s.guard)) (filter (λ s. s.act == a) mode.switches)
 
+-- the first of some items, as a list
 abbrev pub first_of : {A : Type 0} → List A → List A
 first_of [] = []
 first_of (a ∷ as') = a ∷ []
@@ -94,6 +100,7 @@ release_of m name =
     (λ mode. map (λ i. record { mode = name.mode; invocation = name.number; call = number_in (call_names m) name.mode i.act })
     (listed (slice_get mode.invocations (name.number - 1)))) (mode_at m name.mode)) []
 
+-- a resource is the bus
 abbrev pub is_bus : Resource → Bool
 is_bus Cpu = false
 is_bus Bus = true
@@ -113,6 +120,7 @@ abbrev pub placed : ImageWindow → List ImageWindow → List ImageWindow
 placed w [] = w ∷ []
 placed w (v ∷ vs) = if is_before w v then w ∷ v ∷ vs else v ∷ placed w vs
 
+-- windows, each in its place among those that are in order
 abbrev pub ordered_from : List ImageWindow → List ImageWindow → List ImageWindow
 ordered_from done [] = done
 ordered_from done (w ∷ ws) = ordered_from (placed w done) ws

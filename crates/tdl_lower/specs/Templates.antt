@@ -40,6 +40,7 @@ stmt_step (Stmt-F.Assign k value) = expr_code value ++ instr.Store k ∷ []
 stmt_step (Stmt-F.If test then' other) = if_code (expr_code test) then' other
 stmt_step (Stmt-F.Repeat count block) = instr.Rep count (length block) ∷ block
 
+-- the code of a block, given that of its statements
 abbrev pub block_step : Body-F Text Text → Text
 block_step block = in_turn block.stmts
 

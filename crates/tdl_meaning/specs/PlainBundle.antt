@@ -34,6 +34,7 @@ plain_schedule f = record {
 abbrev pub add_code : Code
 add_code = record { instrs = instr.Load (Cell 1) ∷ instr.Load (Cell 0) ∷ instr.Bin Add ∷ instr.Store 1 ∷ [] }
 
+-- the sensor's number
 abbrev pub sensor_code : Code
 sensor_code = record { instrs = instr.Load (Sensor 0) ∷ [] }
 
@@ -47,6 +48,7 @@ plain_blocks f =
     ∷ record { phase = 3; code = e.Mode 0 ∷ e.Future 0 1 ∷ e.Return ∷ [] }
     ∷ []
 
+-- the table of the task
 abbrev pub plain_table : Form → TaskTable
 plain_table f = record {
   name = f.task;
@@ -57,6 +59,7 @@ plain_table f = record {
   body = add_code;
 }
 
+-- the module
 abbrev pub plain_hosted : Form → Hosted
 plain_hosted f = record {
   number = record { 0 = 0 };

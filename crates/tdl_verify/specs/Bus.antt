@@ -74,6 +74,7 @@ one_start [] = Start.Nothing
 one_start (s ∷ []) = s
 one_start (s ∷ t ∷ more) = Start.Two
 
+-- the start of a node at x
 abbrev pub node_start : ℕ → NodeNow → Start
 node_start x n = one_start (flat_map (starts x) n.parts)
 
@@ -88,6 +89,7 @@ executed_member f e =
 abbrev pub received : ℕ → Frame → Receive → EntryNow → EntryNow
 received x f e now = unwrap_or (option_map (λ (m : Member). record { copy = m.values; due = Some (x + e.delta) }) (executed_member f e)) now
 
+-- the receive entries of a stub after it
 abbrev pub entries_received : ℕ → Frame → List Receive → List EntryNow → List EntryNow
 entries_received x f (e ∷ es) (now ∷ more) = received x f e now ∷ entries_received x f es more
 entries_received x f es more = more

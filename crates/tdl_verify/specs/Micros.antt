@@ -68,6 +68,7 @@ stretches x (Part.Host h s) = flat_map by_window (filter (is_live x s) h.windows
     by_window : ImageWindow → List Stretch
     by_window w = by_task w 0 s.tasks
 
+-- the first of some stretches
 abbrev pub head_of : List Stretch → Option Stretch
 head_of [] = None
 head_of (s ∷ more) = Some s

@@ -38,11 +38,13 @@ pub record Run : Type 0 where
 abbrev pub Lost : Type 0
 Lost = ℕ → ℕ → ℕ → Bool
 
+-- no frame is lost
 abbrev pub no_loss : Lost
 no_loss number at until = false
 
 -- ---- arrival
 
+-- the nodes after a frame whose end is reached was handed over, unless it is lost
 abbrev pub landed : ℕ → Lost → List NodeNow → Option Flight → List NodeNow
 landed x lost nodes None = nodes
 landed x lost nodes (Some f) =
@@ -55,6 +57,7 @@ still_flying x (Some f) = if f.until == x then None else Some f
 
 -- ---- the E-machines, node by node
 
+-- the turns of nodes: the nodes and their rows, or the trap of one
 pub data Turns : Type 0 where
   All : List NodeNow → List Shown → Turns
   Stuck : (node : ℕ) → Why → Turns
@@ -73,10 +76,12 @@ all_turns x sensed times k (n ∷ more) =
 
 -- ---- the frames that leave, node by node
 
+-- what nodes send: what is on the bus then, how many frames were sent, rows and frames; or the trap of one
 pub data Sends : Type 0 where
   Sent : Option Flight → ℕ → List Shown → List Sending → Sends
   Refused : (node : ℕ) → Why → Sends
 
+-- the invocation of a frame: that of its first member
 abbrev pub invocation_of : Frame → ℕ
 invocation_of f = first_invocation f.members
   where
@@ -111,6 +116,7 @@ all_sends x k (n ∷ more) flight count = and_sends (put_on x k (node_start x n)
 
 -- ---- one instant
 
+-- a run that ends with a trap
 abbrev pub dead : ℕ → ℕ → Why → Run
 dead node at reason = record { rows = []; sendings = []; now = Now.Dead node at reason }
 
@@ -132,6 +138,7 @@ instant x sensed times lost ran s = after_turns (all_turns x sensed times 0 (lan
 
 -- ---- one microsecond of all processors
 
+-- a microsecond of nodes: the nodes behind it, or one on which two windows are live
 pub data Micros : Type 0 where
   Walked : List NodeNow → Micros
   Clashed : (node : ℕ) → Micros
@@ -163,6 +170,7 @@ next_instant horizon x sensed times lost s = behind (all_micros x 0 s.nodes)
 
 -- ---- the run
 
+-- the nodes before instant 0
 abbrev pub system_first : Bundle → System
 system_first b = record { nodes = map node_first b.images; flight = None; sent = 0 }
 
@@ -203,5 +211,6 @@ is_plain row = true
 abbrev pub logged_rows : Run → List Shown
 logged_rows r = r.rows ++ trap_rows r.now
 
+-- the rows of a run without the log
 abbrev pub plain_rows : Run → List Shown
 plain_rows r = filter is_plain (logged_rows r)

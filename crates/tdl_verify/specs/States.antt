@@ -117,6 +117,7 @@ look_on parts sensed m = record { sensor = sensed m; port = outputs_on parts }
 abbrev pub value_on : List Part → Sensed → ℕ → Code → ℤ
 value_on parts sensed m code = number_of (look_on parts sensed m) code.instrs
 
+-- the initial numbers of ports
 abbrev pub initials : List Initial → List ℤ
 initials ports = map (λ p. p.initial) ports
 

@@ -31,6 +31,7 @@ pub record Due : Type 0 where
 abbrev pub phase_of : List Block → ℕ → ℕ
 phase_of blocks b = unwrap_or (option_map (λ k. k.phase) (slice_get blocks b)) 0
 
+-- an instant, where there is one, is x
 abbrev pub is_at : ℕ → Option ℕ → Bool
 is_at x None = false
 is_at x (Some at) = at == x
@@ -53,6 +54,7 @@ due_of x phase k (Part.Outside p s) = from_entry 0 p.entries s.entries
 abbrev pub due_in : ℕ → ℕ → List Part → List Due
 due_in x phase parts = joined (numbered 0 (due_of x phase) parts)
 
+-- the first of some due triggers
 abbrev pub first_of : List Due → Option Due
 first_of [] = None
 first_of (d ∷ ds) = Some d
@@ -88,6 +90,7 @@ pub data Acted : Type 0 where
 abbrev pub output_rows : ℕ → ℕ → ℕ → ℕ → List ℤ → List Shown
 output_rows x node m t outputs = numbered 0 (λ o v. Shown.Committed x node m t o v) outputs
 
+-- a code without instructions
 abbrev pub no_code : Code
 no_code = record { instrs = [] }
 
@@ -148,6 +151,7 @@ ended x node h s pc t = by_slot (unwrap_or (option_map (λ u. u.slot) (slice_get
         Acted.On (Part.Host h (record s { tasks = changed_at t (λ (u : TaskNow). record u { outputs = outputs; slot = Slot.Idle }) s.tasks }))
         (output_rows x node h.number.0 t outputs) (suc pc)
 
+-- a mode, where there is one, is m
 abbrev pub is_mode : ℕ → Option ℕ → Bool
 is_mode m None = false
 is_mode m (Some k) = k == m
