@@ -1,0 +1,109 @@
+-- The bundle of a plain program can be spelled.
+use Rattle.std.proofs.Common.{◌≡◌, ◌≤◌, ℕ, pos, ◌&&◌, Bool, true, false, nat_le, List, [], ◌∷◌, length, All, IsTrue, not, refl, sym, arith, true≢false}
+use Rattle.std.proofs.lemmas.Bool.Decides.{nat_tests}
+use Rattle.std.proofs.lemmas.List.Elements.{All-nil, All-cons, All-from_recursion}
+use Rattle.std.proofs.lemmas.Int.{ints}
+use Rattle.std.specs.List.Sorted.{IsStrictlyIncreasing}
+use Rattle.tdl_base.specs.declared.kinds.Kind.TheVariants.{Int}
+use Rattle.tdl_image.specs.Identifiers.{IsIdentifier}
+use Rattle.tdl_image.specs.Spellable as sp
+use Rattle.tdl_plain.specs.declared.form.Form.{Form}
+use Rattle.tdl_plain.specs.PlainSource.{IsPlainForm, is_name, is_reserved}
+use Rattle.tdl_plain.specs.Tokens.{is_word, is_identifier}
+use Rattle.tdl_meaning.specs.PlainBundle.{plain_bundle, plain_hosted, plain_table, plain_blocks}
+
+and_left : (a b : Bool) → (a && b) ≡ true → a ≡ true
+and_left true b h = refl
+and_left false b h = h
+
+at_most : (a b : ℕ) → nat_le a b ≡ true → a ≤ b
+at_most a b h = grind (arith, nat_tests)
+
+and_right : (a b : Bool) → (a && b) ≡ true → b ≡ true
+and_right true b h = h
+and_right false b h = absurd (true≢false (sym h))
+
+-- a name is an identifier
+identifier : (t : List ℕ) → IsTrue (is_name t) → IsIdentifier t
+identifier t h = record {
+  word = and_left (is_word t) (nat_le (length t) 64) (and_left (is_identifier t) (not (is_reserved t)) h);
+  short = at_most (length t) 64 (and_right (is_word t) (nat_le (length t) 64) (and_left (is_identifier t) (not (is_reserved t)) h));
+}
+
+-- a list of one item
+one : {X : Type 0} (P : X → Type 0) (x : X) → P x → All P (x ∷ [])
+one P x p = All-cons P x [] p (All-nil P)
+
+-- a list of one number increases
+alone : (n : ℕ) → IsStrictlyIncreasing (n ∷ [])
+alone n k lt = absurd (omega (arith, lt))
+
+none : IsStrictlyIncreasing []
+none k lt = absurd (omega (arith, lt))
+
+module _ (f : Form) (lawful : IsPlainForm f) where
+  output : sp.IsSpellableInitial (record { kind = Int; name = f.output; initial = pos f.initial })
+  output = record { name = identifier f.output lawful.output_name; initial = (omega (arith, ints), omega (arith, ints, lawful.initial_to)) }
+
+  table : sp.IsSpellableTask (plain_table f)
+  table = record {
+    name = identifier f.task lawful.task_name;
+    worst = lawful.worst_from;
+    input_count = omega arith;
+    output_count = omega arith;
+    local_count = omega arith;
+    outputs = one sp.IsSpellableInitial _ output;
+    body = record { count = omega arith };
+  }
+
+  blocks : All sp.IsSpellableBlock (plain_blocks f)
+  blocks = All-from_recursion sp.IsSpellableBlock (plain_blocks f) (
+    record { at_least = omega arith; at_most = omega arith; count = omega arith },
+    (
+      record { at_least = omega arith; at_most = omega arith; count = omega arith },
+      (
+        record { at_least = omega arith; at_most = omega arith; count = omega arith },
+        (
+          record { at_least = omega arith; at_most = omega arith; count = omega arith },
+          (record { at_least = omega arith; at_most = omega arith; count = omega arith }, tt),
+        ),
+      ),
+    ),
+  )
+
+  host : sp.IsSpellableHosted (plain_hosted f)
+  host = record {
+    name = identifier f.module lawful.module_name;
+    sensor_count = omega arith;
+    actuator_count = omega arith;
+    task_count = omega arith;
+    mode_count = omega arith;
+    call_count = omega arith;
+    release_count = omega arith;
+    guard_count = omega arith;
+    driver_count = omega arith;
+    window_count = omega arith;
+    block_count = omega arith;
+    sensors = one sp.IsSpellableSensor _ (record { name = identifier f.sensor lawful.sensor_name });
+    actuators = All-nil sp.IsSpellableInitial;
+    tasks = one sp.IsSpellableTask _ table;
+    modes = one IsIdentifier f.mode (identifier f.mode lawful.mode_name);
+    calls = one sp.IsSpellableCall _ (record { count = omega arith; args = one sp.IsSpellableCode _ (record { count = omega arith }) });
+    guards = All-nil sp.IsSpellableCode;
+    drivers = All-nil sp.IsSpellableDriver;
+    blocks = blocks;
+  }
+
+  image : All sp.IsSpellableImage (plain_bundle f).images
+  image = one sp.IsSpellableImage _ (record {
+    node = record { word = refl; short = omega arith };
+    hosted_count = omega arith;
+    stub_count = omega arith;
+    hosted = one sp.IsSpellableHosted _ host;
+    hosted_order = alone 0;
+    stubs = All-nil sp.IsSpellableStub;
+    stub_order = none;
+  })
+
+  pub spellable : sp.IsSpellable (plain_bundle f)
+  spellable = record { at_least = omega arith; at_most = omega arith; images = image }

@@ -1,0 +1,62 @@
+ghost use Rattle.std.specs.Prelude.{◌≡◌, IfOk};
+ghost use Rattle.tdl_meaning.specs.PlainBundle as plain;
+ghost use Rattle.tdl_walk.specs.Kept.{IsRunnable};
+
+use crate::parts::{argument, blocks, only, sensor, table};
+use std::alloc::Global;
+use tdl_base::{Listed, ModuleId, NoMemory, Text};
+use tdl_image::{Bundle, CallEntry, Hosted, Image, ImageWindow, ReleaseEntry};
+use tdl_plain::Form;
+
+fn hosted(alloc: Global, form: &Form) -> Result<Hosted, NoMemory>
+    requires { IsRunnable form.now }
+    ensures { IfOk result (λ host. host ≡ plain.plain_hosted form.now) }
+{
+    let call = CallEntry {
+        task: 0,
+        args: only(alloc, argument(alloc)?)?,
+    };
+    let release = ReleaseEntry {
+        mode: 0,
+        invocation: 1,
+        call: 0,
+    };
+    let window = ImageWindow {
+        bus: false,
+        mode: 0,
+        invocation: 1,
+        offset: 0,
+        length: form.worst as u32,
+    };
+    Ok(Hosted {
+        number: ModuleId(0),
+        name: Text::from_str(alloc, form.module.as_str())?,
+        sensors: only(alloc, sensor(alloc, &form.sensor)?)?,
+        actuators: Listed::new(alloc),
+        tasks: only(alloc, table(alloc, form)?)?,
+        modes: only(alloc, Text::from_str(alloc, form.mode.as_str())?)?,
+        calls: only(alloc, call)?,
+        releases: only(alloc, release)?,
+        guards: Listed::new(alloc),
+        drivers: Listed::new(alloc),
+        windows: only(alloc, window)?,
+        blocks: blocks(alloc, form)?,
+        entry: 0,
+    })
+}
+
+/// The bundle of a plain program, its module on the one node `n1`, or NoMemory.
+pub fn plain_bundle(alloc: Global, form: &Form) -> Result<Bundle, NoMemory>
+    requires { IsRunnable form.now }
+    ensures { IfOk result (λ bundle. bundle ≡ plain.plain_bundle form.now) }
+{
+    let image = Image {
+        node: Text::from_str(alloc, "n1")?,
+        declared: 11,
+        hosted: only(alloc, hosted(alloc, form)?)?,
+        stubs: Listed::new(alloc),
+    };
+    Ok(Bundle {
+        images: only(alloc, image)?,
+    })
+}
