@@ -1,7 +1,8 @@
 -- The declared count of a node: the most instructions that its E-machine runs at one instant.
-use Rattle.std.specs.Prelude.{ℕ, ◌+◌, ◌*◌, ◌==◌, max, List, [], ◌∷◌, map, length, sum, count_by, if◌then◌else◌}
+use Rattle.std.specs.Prelude.{ℕ, ◌+◌, ◌*◌, Bool, nat_lt, ◌==◌, max, List, [], ◌∷◌, map, filter, length, sum, count_by, if◌then◌else◌}
 use Rattle.tdl_mode.specs.declared.program.Program.{Program}
 use Rattle.tdl_mode.specs.declared.program.Module.{Module}
+use Rattle.tdl_mode.specs.declared.program.Mode.{Mode}
 use Rattle.tdl_mode.specs.Offsets.{offsets}
 use Rattle.tdl_mode.specs.States.{numbered}
 use Rattle.tdl_deploy.specs.declared.placement.Placement.{Placement}
@@ -26,13 +27,22 @@ length_of m name = length (block_of m name).code
 abbrev pub before_starts : Module → ℕ → ℕ → ℕ
 before_starts m k o = length_of m (BlockName.Ends k o) + length_of m (BlockName.Updates k o) + length_of m (BlockName.Switches k o)
 
--- some number for each offset of each mode
-abbrev pub at_offsets : (ℕ → ℕ → ℕ) → Module → List ℕ
-at_offsets f m = joined (numbered 0 (λ k mode. map (f k) (offsets mode)) m.modes)
+-- some number for each offset of each mode that passes
+abbrev pub at_offsets : (Mode → ℕ → Bool) → (ℕ → ℕ → ℕ) → Module → List ℕ
+at_offsets passes f m = joined (numbered 0 (λ k mode. map (f k) (filter (passes mode) (offsets mode))) m.modes)
+
+-- blocks of phases 1, 2 and 3 stand at the offsets above 0
+abbrev pub has_ends : Mode → ℕ → Bool
+has_ends mode o = nat_lt 0 o
+
+-- a block of phase 4 stands at the offsets below the period
+abbrev pub has_starts : Mode → ℕ → Bool
+has_starts mode o = nat_lt o mode.period.0
 
 -- a hosted module's part: its longest offset, and its longest block of phase 4
 abbrev pub module_count : Module → ℕ
-module_count m = greatest (at_offsets (before_starts m) m) + greatest (at_offsets (λ k o. length_of m (BlockName.Starts k o)) m)
+module_count m =
+    greatest (at_offsets has_ends (before_starts m) m) + greatest (at_offsets has_starts (λ k o. length_of m (BlockName.Starts k o)) m)
 
 -- a stub's part: two instructions for each entry of the mode that has the most
 abbrev pub stub_count : Stub → ℕ

@@ -46,7 +46,7 @@ module _ (f : Form) (lt : 0 < period_us f) where
 
   -- the declared count
   counts_are : module_count (module_of f) ≡ 11
-  counts_are = rw (offsets_are, some, itself, not_none) refl
+  counts_are = rw (offsets_are, above (period_us f) lt, not_itself (period_us f), itself) refl
 
   least : min (period_us f) (period_us f) ≡ period_us f
   least = min-eq_left (omega arith)
