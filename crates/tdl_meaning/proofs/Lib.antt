@@ -1,3 +1,4 @@
 pub mod PlainSteps
 pub mod PlainMeaning
 pub mod PlainRealises
+pub mod PlainText

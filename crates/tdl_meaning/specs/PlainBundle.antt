@@ -1,5 +1,5 @@
 -- The bundle of a plain program, and the state of its machine.
-use Rattle.std.specs.Prelude.{ℕ, ℤ, pos, ◌+◌, false, List, [], ◌∷◌, Option, Some, None, codes}
+use Rattle.std.specs.Prelude.{◌≡◌, ℕ, ℤ, pos, ◌+◌, false, List, [], ◌∷◌, Option, Some, None, codes}
 use Rattle.tdl_base.specs.declared.kinds.Kind.TheVariants.{Int}
 use Rattle.tdl_base.specs.declared.numbers.Place.TheVariants.{Sensor, Cell}
 use Rattle.tdl_base.specs.declared.arithmetic.BinOp.TheVariants.{Add}
@@ -14,6 +14,7 @@ use Rattle.tdl_deploy.specs.declared.schedule.Schedule.{Schedule}
 use Rattle.tdl_deploy.specs.declared.schedule.Resource.TheVariants.{Cpu}
 use Rattle.tdl_plain.specs.declared.form.Form.{Form}
 use Rattle.tdl_plain.specs.PlainProgram.{period_us}
+use Rattle.tdl_plain.specs.PlainSource.{IsPlainForm}
 use Rattle.tdl_verify.specs.States.{Slot, Part, Stretch}
 use Rattle.tdl_verify.specs.Runs.{System}
 
@@ -80,6 +81,12 @@ plain_hosted f = record {
 -- the bundle of a plain program
 abbrev pub plain_bundle : Form → Bundle
 plain_bundle f = record { images = record { node = codes "n1"; declared = 11; hosted = plain_hosted f ∷ []; stubs = [] } ∷ [] }
+
+-- the bundle is that of a plain program
+pub record IsPlainBundle (b : Bundle) : Type 0 where
+  pub form : Form
+  pub lawful : IsPlainForm form
+  pub is : b ≡ plain_bundle form
 
 -- the machine in the cycle that began at `base`: its output, its slot, how many jobs were released, and the open stretch
 abbrev pub plain_system : Form → ℕ → ℤ → Slot → ℕ → Option Stretch → System

@@ -1,10 +1,12 @@
-//! The law of plain programs. Its function does nothing: its contract is the law.
-ghost use Rattle.std.specs.Prelude.{◌≡◌};
+//! Laws of plain programs. Each function does nothing: its contract is the law.
+ghost use Rattle.std.specs.Prelude.{◌≡◌, []};
 ghost use Rattle.tdl_deploy.specs.Named.{one_node};
 ghost use Rattle.tdl_plain.specs.declared.form.Form.{Form};
 ghost use Rattle.tdl_plain.specs.PlainProgram.{program_of};
-ghost use Rattle.tdl_walk.specs.Kept.{IsRunnable};
-ghost use Rattle.tdl_gen.specs.Realises.{bundle_of, Realises};
+ghost use Rattle.tdl_scen.specs.declared.entries.Scenario.{Scenario};
+ghost use Rattle.tdl_walk.specs.Kept.{IsRunnable, run_text};
+ghost use Rattle.tdl_verify.specs.Texts.{bundle_run, bundle_text};
+ghost use Rattle.tdl_gen.specs.Realises.{bundle_of, Realises, IsAlive};
 ghost use Rattle.tdl_meaning.specs.PlainBundle.{plain_bundle, plain_schedule};
 
 /// A plain program whose task has the processor for its worst case from the start of each cycle:
@@ -16,4 +18,13 @@ pub fn plain_bundles()
         bundle_of (program_of f) (one_node (program_of f)) (plain_schedule f) ≡ plain_bundle f }
     ensures realises { (f : Form) → IsRunnable f →
         Realises (plain_bundle f) (program_of f) (one_node (program_of f)) (plain_schedule f) }
+{}
+
+/// The run of a plain program's bundle under a scenario that lists no execution times: it has no
+/// trap, and its printed lines are those of the logical rows.
+pub fn plain_runs()
+    ensures alive { (f : Form) → IsRunnable f → (s : Scenario) → s.times ≡ [] →
+        IsAlive (bundle_run (plain_bundle f) s).now }
+    ensures printed { (f : Form) → IsRunnable f → (s : Scenario) → s.times ≡ [] →
+        bundle_text (plain_bundle f) s ≡ run_text f s.senses s.horizon.0 }
 {}

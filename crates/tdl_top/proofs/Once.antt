@@ -1,196 +1,211 @@
 -- One answer at most is due, and an answer that is no fault is.
-use Rattle.std.proofs.Common.{◌≡◌, ◌<◌, ℕ, List, length, true, false, refl, ap, sym, ◌∙◌, subst, arith, inl, inr, ◌⊎◌}
-use Rattle.std.specs.declared.option.Option.{Option}
-use Rattle.std.specs.declared.option.Option.TheVariants.{Some}
-use Rattle.std.proofs.lemmas.Bool.{true≢false}
-use Rattle.tdl_io.specs.Outside.{Held}
-use Rattle.tdl_plain.specs.declared.form.Form.{Form}
-use Rattle.tdl_plain.specs.PlainSource.{IsPlainSource}
+use Rattle.std.proofs.Common.{◌≡◌, ◌≤◌, ℕ, List, length, refl, ap, sym, ◌∙◌, subst, arith, inl, inr, Option, Some, None}
+use Rattle.std.specs.Prelude.{◌⊎◌}
+use Rattle.tdl_base.specs.declared.limits.TheConstants.{SCENARIO_BYTES}
+use Rattle.tdl_io.specs.Outside.{Held, IsLonger}
 use Rattle.tdl_plain.proofs.Unique.{source_unique}
+use Rattle.tdl_image.specs.declared.bundle.Bundle.{Bundle}
 use Rattle.tdl_scen.specs.declared.entries.Scenario.{Scenario}
-use Rattle.tdl_scen.specs.PlainScenario.{IsPlainScenario}
+use Rattle.tdl_meaning.specs.PlainBundle.{plain_bundle}
 use Rattle.tdl_top.specs.declared.status.Status.{Status}
-use Rattle.tdl_top.specs.declared.status.Status.TheVariants.{Ok, Usage, LoadFailed, TooLong, WriteFailed, NoMemory, BadForm}
-use Rattle.tdl_top.specs.Words.{Words, is_run}
-use Rattle.tdl_top.specs.Answers.{FilesCall, SinkCall, limit_at, IsRead, HasSource, IsAskedFor, IsTooLong, IsOfNoForm, PrintsRun, Says}
-use Rattle.tdl_top.specs.Due.{file_at, Fits, HoldsSource, IsNext, HoldsNoSource, HoldsNoScenario, HoldsInputs, IsDue, IsFault}
+use Rattle.tdl_top.specs.declared.status.Status.TheVariants.{Ok, Usage, LoadFailed, TooLong, WriteFailed, SaveFailed, NoMemory, BadForm}
+use Rattle.tdl_top.specs.declared.words.Call.{Call}
+use Rattle.tdl_top.specs.Words.{Words, word_at, scenario_word}
+use Rattle.tdl_top.specs.Calls.{FilesCall, SinkCall}
+use Rattle.tdl_top.specs.Answers.{IsRead, Gives, IsScenarioOf, HasBundle, HasNoBundle, HasScenario, HasNoScenario, HasAsked, IsAt, IsTooLong, IsOfNoForm, Prints, SaysOf, SaysBy, first_limit}
+use Rattle.tdl_top.specs.Due.{HoldsInputs, IsDueOf, IsDueBy, IsFault}
 
--- ---- from what was read to what the files hold
+-- ---- what was read of files that tell what they hold
 
--- what was read is the file, within its limit
-read_fits : (held : Held) (words : Words) (w : ℕ) (bytes : List ℕ) → IsRead (Some held) words w bytes → Fits held words w
-read_fits held words w bytes r = omega (arith, ap length r.reads, r.within)
+-- two readings of a file are one
+same_bytes : (held : Held) (words : Words) (w l : ℕ) (a b : List ℕ) → IsRead (Some held) words w l a → IsRead (Some held) words w l b → a ≡ b
+same_bytes held words w l a b x y = x.reads ∙ sym y.reads
 
-source_held : (held : Held) (words : Words) (form : Form) → HasSource (Some held) words form → HoldsSource held words form
-source_held held words form s = record {
-  fits = read_fits held words 1 s.bytes s.read;
-  plain = subst (λ (b : List ℕ). IsPlainSource form b) s.read.reads s.plain;
-}
+-- a file that was read within its limit is not longer
+not_long : (held : Held) (words : Words) (w l : ℕ) (a : List ℕ) → IsRead (Some held) words w l a → IsLonger (Some held) (word_at words w) l → ⊥
+not_long held words w l a x long = let le = subst (λ (b : List ℕ). length b ≤ l) x.reads x.within in omega (arith, le, long)
 
-asked_next : (held : Held) (words : Words) (w : ℕ) → IsAskedFor (Some held) words w → IsNext held words w
-asked_next held words w asked = elim asked [
-  | inl first ↦ inl first
-  | inr second ↦ inr (second.0, record { form = second.1.form; source = source_held held words second.1.form second.1.source })
-]
+-- bytes give one bundle at most
+gives_once : (call : Call) (a b : Bundle) (bytes : List ℕ) → Gives call a bytes → Gives call b bytes → a ≡ b
+gives_once call a b bytes x y = x.made ∙ ap plain_bundle (source_unique x.form y.form bytes x.plain y.plain) ∙ sym y.made
 
-inputs_held : (held : Held) (words : Words) (out : SinkCall) → PrintsRun (Some held) words out → HoldsInputs held words
-inputs_held held words out p = record {
-  form = p.form;
-  scenario = p.scenario;
-  source = source_held held words p.form p.source;
-  fits = read_fits held words 3 p.scenario_read.bytes p.scenario_read.read;
-  plain = subst (λ (b : List ℕ). IsPlainScenario p.form.module p.form.sensor b p.scenario) p.scenario_read.read.reads p.scenario_read.plain;
-}
+module _ (held : Held) (words : Words) (call : Call) where
+  bundle_once : (a b : Bundle) → HasBundle (Some held) words call a → HasBundle (Some held) words call b → a ≡ b
+  bundle_once a b x y = gives_once call a b y.bytes
+      (subst (λ (c : List ℕ). Gives call a c) (same_bytes held words 1 (first_limit call) x.bytes y.bytes x.read y.read) x.gives) y.gives
 
-abbrev IsOther : Held → Words → ℕ → Type 0
-IsOther held words w = ((w ≡ 1) × HoldsNoSource held words) ⊎ ((w ≡ 3) × HoldsNoScenario held words)
+  -- the first file is too long, gives no bundle, or gives one
+  abbrev Long : Type 0
+  Long = IsLonger (Some held) (word_at words 1) (first_limit call)
 
-other_held : (held : Held) (words : Words) (w : ℕ) → IsOfNoForm (Some held) words w → Fits held words w × IsOther held words w
-other_held held words w other = elim other [
-  | inl first ↦ (
-    subst (λ (k : ℕ). Fits held words k) (sym first.0) (read_fits held words 1 first.1.bytes first.1.read),
-    inl (first.0, subst (λ (b : List ℕ). (form : Form) → IsPlainSource form b → ⊥) first.1.read.reads first.1.other),
-  )
-  | inr second ↦ (
-    subst (λ (k : ℕ). Fits held words k) (sym second.0) (read_fits held words 3 second.1.bytes second.1.read),
-    inr (
-      second.0,
-      record {
-        form = second.1.form;
-        source = source_held held words second.1.form second.1.source;
-        other = subst (λ (b : List ℕ). (scenario : Scenario) → IsPlainScenario second.1.form.module second.1.form.sensor b scenario → ⊥) second.1.read.reads second.1.other;
-      },
-    ),
-  )
-]
+  abbrev No : Type 0
+  No = HasNoBundle (Some held) words call
 
--- an answer that is no fault is due
-pub says_due : (files : FilesCall) (words : Words) (out : SinkCall) (held : Held) (s : Status) → files.holds ≡ Some held → Says files words out s → IsFault s ⊎ IsDue held words s
-says_due files words out held Ok e says = inr (says.0, inputs_held held words out (subst (λ (h : Option Held). PrintsRun h words out) e says.1))
-says_due files words out held Usage e says = inr says.0
-says_due files words out held (LoadFailed w) e says = inl tt
-says_due files words out held (TooLong w) e says =
-    let long = subst (λ (h : Option Held). IsTooLong h words w) e says.1 in inr (says.0, asked_next held words w long.asked, long.longer)
-says_due files words out held WriteFailed e says = inl tt
-says_due files words out held NoMemory e says = inl tt
-says_due files words out held (BadForm w) e says =
-    let other = other_held held words w (subst (λ (h : Option Held). IsOfNoForm h words w) e says.1) in inr (says.0, other.0, other.1)
+  abbrev Has : Bundle → Type 0
+  Has b = HasBundle (Some held) words call b
 
--- ---- one answer at most is due
+  long_no : Long → No → ⊥
+  long_no long lacks = not_long held words 1 (first_limit call) lacks.bytes lacks.read long
 
-not_both : (words : Words) → is_run words ≡ true → is_run words ≡ false → ⊥
-not_both words run other = true≢false (sym run ∙ other)
+  long_has : (b : Bundle) → Long → Has b → ⊥
+  long_has b long has = not_long held words 1 (first_limit call) has.bytes has.read long
 
-abbrev IsLong : Held → Words → ℕ → Type 0
-IsLong held words w = limit_at w < length (file_at held words w)
+  no_has : (b : Bundle) → No → Has b → ⊥
+  no_has b lacks has = lacks.other b (subst (λ (c : List ℕ). Gives call b c) (same_bytes held words 1 (first_limit call) has.bytes lacks.bytes has.read lacks.read) has.gives)
 
--- a file is not both within its limit and longer
-long_at : (held : Held) (words : Words) (w k : ℕ) → w ≡ k → IsLong held words w → Fits held words k → ⊥
-long_at held words w k e long fits = let l = subst (λ (n : ℕ). IsLong held words n) e long in omega (arith, l, fits)
+  -- so is the scenario
+  abbrev LongAt : ℕ → Type 0
+  LongAt w = IsLonger (Some held) (word_at words w) SCENARIO_BYTES
 
-fits_at : (held : Held) (words : Words) (w k : ℕ) → w ≡ k → Fits held words w → Fits held words k
-fits_at held words w k e fits = subst (λ (n : ℕ). Fits held words n) e fits
+  long_no_scenario : (w : ℕ) (b : Bundle) → LongAt w → HasNoScenario (Some held) words w b → ⊥
+  long_no_scenario w b long lacks = not_long held words w SCENARIO_BYTES lacks.bytes lacks.read long
 
-inputs_not_long : (held : Held) (words : Words) (w : ℕ) → HoldsInputs held words → IsNext held words w → IsLong held words w → ⊥
-inputs_not_long held words w h next long = elim next [
-  | inl first ↦ long_at held words w 1 first long h.source.fits
-  | inr second ↦ long_at held words w 3 second.0 long h.fits
-]
+  long_scenario : (w : ℕ) (b : Bundle) (s : Scenario) → LongAt w → HasScenario (Some held) words b w s → ⊥
+  long_scenario w b s long has = not_long held words w SCENARIO_BYTES has.bytes has.read long
 
-inputs_no_other : (held : Held) (words : Words) (w : ℕ) → HoldsInputs held words → IsOther held words w → ⊥
-inputs_no_other held words w h other = elim other [
-  | inl first ↦ first.1 h.form h.source.plain
-  | inr second ↦ second.1.other h.scenario
-      (subst (λ (f : Form). IsPlainScenario f.module f.sensor (file_at held words 3) h.scenario)
-      (source_unique h.form second.1.form (file_at held words 1) h.source.plain second.1.source.plain) h.plain)
-]
+  no_scenario : (w : ℕ) (b : Bundle) (s : Scenario) → HasNoScenario (Some held) words w b → HasScenario (Some held) words b w s → ⊥
+  no_scenario w b s lacks has = lacks.other s
+      (subst (λ (c : List ℕ). IsScenarioOf b c s) (same_bytes held words w SCENARIO_BYTES has.bytes lacks.bytes has.read lacks.read) has.plain)
 
-long_once : (held : Held) (words : Words) (w v : ℕ) → IsNext held words w → IsLong held words w → IsNext held words v → IsLong held words v → w ≡ v
-long_once held words w v x long y other = elim x [
-  | inl first ↦ elim y [
-    | inl same ↦ first ∙ sym same
-    | inr second ↦ absurd (long_at held words w 1 first long second.1.source.fits)
+  -- ---- two faults of inputs
+
+  same_word : (w v : ℕ) → scenario_word call ≡ Some w → scenario_word call ≡ Some v → w ≡ v
+  same_word w v x y = by_some (sym x ∙ y)
+    where
+      by_some : Some w ≡ Some v → w ≡ v
+      by_some e = cc e
+
+  -- where a fault of the first file leaves no bundle, two faults are of one word
+  at_once : (First Other : Type 0) (Second More : Bundle → Type 0) (w v : ℕ) → ((b : Bundle) → First → Has b → ⊥) → ((b : Bundle) → Other → Has b → ⊥) →
+      IsAt (Some held) words call w First Second → IsAt (Some held) words call v Other More → w ≡ v
+  at_once First Other Second More w v first other x y = elim x [
+    | inl a ↦ elim y [
+      | inl b ↦ a.0 ∙ sym b.0
+      | inr b ↦ absurd (first b.1.bundle a.1 b.1.has)
+    ]
+    | inr a ↦ elim y [
+      | inl b ↦ absurd (other a.1.bundle b.1 a.1.has)
+      | inr b ↦ same_word w v a.0 b.0
+    ]
   ]
-  | inr second ↦ elim y [
-    | inl first ↦ absurd (long_at held words v 1 first other second.1.source.fits)
-    | inr same ↦ second.0 ∙ sym same.0
+
+  -- two faults that exclude each other at each input
+  at_apart : (First Other : Type 0) (Second More : ℕ → Bundle → Type 0) (w v : ℕ) → (First → Other → ⊥) → ((b : Bundle) → First → Has b → ⊥) →
+      ((b : Bundle) → Other → Has b → ⊥) → ((k : ℕ) (b : Bundle) → Second k b → More k b → ⊥) →
+      IsAt (Some held) words call w First (Second w) → IsAt (Some held) words call v Other (More v) → ⊥
+  at_apart First Other Second More w v both first other second x y = elim x [
+    | inl a ↦ elim y [
+      | inl b ↦ both a.1 b.1
+      | inr b ↦ first b.1.bundle a.1 b.1.has
+    ]
+    | inr a ↦ elim y [
+      | inl b ↦ other a.1.bundle b.1 a.1.has
+      | inr b ↦ second v b.1.bundle
+          (subst (λ (k : ℕ). Second k b.1.bundle) (same_word w v a.0 b.0)
+          (subst (λ (c : Bundle). Second w c) (bundle_once a.1.bundle b.1.bundle a.1.has b.1.has) a.1.is))
+          b.1.is
+    ]
   ]
-]
 
-long_no_other : (held : Held) (words : Words) (w v : ℕ) → IsNext held words w → IsLong held words w → Fits held words v → IsOther held words v → ⊥
-long_no_other held words w v x long fits other = elim x [
-  | inl first ↦ elim other [
-    | inl same ↦ long_at held words w 1 first long (fits_at held words v 1 same.0 fits)
-    | inr second ↦ long_at held words w 1 first long second.1.source.fits
+  -- the scenario that is asked for, at its word
+  asked_at : (b : Bundle) (w : ℕ) (o : Option ℕ) → o ≡ Some w → HasAsked (Some held) words b o → (s : Scenario) × HasScenario (Some held) words b w s
+  asked_at b w o e asked = subst (λ (p : Option ℕ). HasAsked (Some held) words b p) e asked
+
+  -- a fault that no good input has
+  at_good : (First : Type 0) (Second : ℕ → Bundle → Type 0) (w : ℕ) → ((b : Bundle) → First → Has b → ⊥) →
+      ((k : ℕ) (b : Bundle) (s : Scenario) → Second k b → HasScenario (Some held) words b k s → ⊥) →
+      IsAt (Some held) words call w First (Second w) → HoldsInputs held words call → ⊥
+  at_good First Second w first second x h = elim x [
+    | inl a ↦ first h.bundle a.1 h.has
+    | inr a ↦ let good = asked_at h.bundle w (scenario_word call) a.0 h.asked in
+        second w h.bundle good.0 (subst (λ (c : Bundle). Second w c) (bundle_once a.1.bundle h.bundle a.1.has h.has) a.1.is) good.1
   ]
-  | inr second ↦ elim other [
-    | inl first ↦ first.1 second.1.form second.1.source.plain
-    | inr same ↦ long_at held words w 3 second.0 long (fits_at held words v 3 same.0 fits)
-  ]
-]
 
-other_once : (held : Held) (words : Words) (w v : ℕ) → IsOther held words w → IsOther held words v → w ≡ v
-other_once held words w v x y = elim x [
-  | inl first ↦ elim y [
-    | inl same ↦ first.0 ∙ sym same.0
-    | inr second ↦ absurd (first.1 second.1.form second.1.source.plain)
-  ]
-  | inr second ↦ elim y [
-    | inl first ↦ absurd (first.1 second.1.form second.1.source.plain)
-    | inr same ↦ second.0 ∙ sym same.0
-  ]
-]
+  good_long : (w : ℕ) → IsTooLong (Some held) words call w → HoldsInputs held words call → ⊥
+  good_long w = at_good Long (λ k b. LongAt k) w long_has (λ k b s. long_scenario k b s)
 
-ok_once : (held : Held) (words : Words) (t : Status) → IsDue held words Ok → IsDue held words t → Ok ≡ t
-ok_once held words Ok a b = refl
-ok_once held words Usage a b = absurd (not_both words a.0 b)
-ok_once held words (LoadFailed v) a b = absurd b
-ok_once held words (TooLong v) a b = absurd (inputs_not_long held words v a.1 b.1 b.2)
-ok_once held words WriteFailed a b = absurd b
-ok_once held words NoMemory a b = absurd b
-ok_once held words (BadForm v) a b = absurd (inputs_no_other held words v a.1 b.2)
+  good_no_form : (w : ℕ) → IsOfNoForm (Some held) words call w → HoldsInputs held words call → ⊥
+  good_no_form w = at_good No (λ k b. HasNoScenario (Some held) words k b) w no_has no_scenario
 
-usage_once : (held : Held) (words : Words) (t : Status) → IsDue held words Usage → IsDue held words t → Usage ≡ t
-usage_once held words Ok a b = absurd (not_both words b.0 a)
-usage_once held words Usage a b = refl
-usage_once held words (LoadFailed v) a b = absurd b
-usage_once held words (TooLong v) a b = absurd (not_both words b.0 a)
-usage_once held words WriteFailed a b = absurd b
-usage_once held words NoMemory a b = absurd b
-usage_once held words (BadForm v) a b = absurd (not_both words b.0 a)
+  long_no_form : (w v : ℕ) → IsTooLong (Some held) words call w → IsOfNoForm (Some held) words call v → ⊥
+  long_no_form w v = at_apart Long No (λ k b. LongAt k) (λ k b. HasNoScenario (Some held) words k b) w v long_no long_has no_has (λ k b. long_no_scenario k b)
 
-too_long_once : (held : Held) (words : Words) (w : ℕ) (t : Status) → IsDue held words (TooLong w) → IsDue held words t → TooLong w ≡ t
-too_long_once held words w Ok a b = absurd (inputs_not_long held words w b.1 a.1 a.2)
-too_long_once held words w Usage a b = absurd (not_both words a.0 b)
-too_long_once held words w (LoadFailed v) a b = absurd b
-too_long_once held words w (TooLong v) a b = ap TooLong (long_once held words w v a.1 a.2 b.1 b.2)
-too_long_once held words w WriteFailed a b = absurd b
-too_long_once held words w NoMemory a b = absurd b
-too_long_once held words w (BadForm v) a b = absurd (long_no_other held words w v a.1 a.2 b.1 b.2)
+  -- ---- one answer at most is due
 
-bad_form_once : (held : Held) (words : Words) (w : ℕ) (t : Status) → IsDue held words (BadForm w) → IsDue held words t → BadForm w ≡ t
-bad_form_once held words w Ok a b = absurd (inputs_no_other held words w b.1 a.2)
-bad_form_once held words w Usage a b = absurd (not_both words a.0 b)
-bad_form_once held words w (LoadFailed v) a b = absurd b
-bad_form_once held words w (TooLong v) a b = absurd (long_no_other held words v w b.1 b.2 a.1 a.2)
-bad_form_once held words w WriteFailed a b = absurd b
-bad_form_once held words w NoMemory a b = absurd b
-bad_form_once held words w (BadForm v) a b = ap BadForm (other_once held words w v a.2 b.2)
+  ok_once : (t : Status) → HoldsInputs held words call → IsDueOf held words call t → Ok ≡ t
+  ok_once Ok h y = refl
+  ok_once Usage h y = absurd y
+  ok_once (LoadFailed v) h y = absurd y
+  ok_once (TooLong v) h y = absurd (good_long v y h)
+  ok_once WriteFailed h y = absurd y
+  ok_once (SaveFailed v) h y = absurd y
+  ok_once NoMemory h y = absurd y
+  ok_once (BadForm v) h y = absurd (good_no_form v y h)
+
+  too_long_once : (w : ℕ) (t : Status) → IsTooLong (Some held) words call w → IsDueOf held words call t → TooLong w ≡ t
+  too_long_once w Ok x y = absurd (good_long w x y)
+  too_long_once w Usage x y = absurd y
+  too_long_once w (LoadFailed v) x y = absurd y
+  too_long_once w (TooLong v) x y = ap TooLong (at_once Long Long (λ b. LongAt w) (λ b. LongAt v) w v long_has long_has x y)
+  too_long_once w WriteFailed x y = absurd y
+  too_long_once w (SaveFailed v) x y = absurd y
+  too_long_once w NoMemory x y = absurd y
+  too_long_once w (BadForm v) x y = absurd (long_no_form w v x y)
+
+  bad_form_once : (w : ℕ) (t : Status) → IsOfNoForm (Some held) words call w → IsDueOf held words call t → BadForm w ≡ t
+  bad_form_once w Ok x y = absurd (good_no_form w x y)
+  bad_form_once w Usage x y = absurd y
+  bad_form_once w (LoadFailed v) x y = absurd y
+  bad_form_once w (TooLong v) x y = absurd (long_no_form v w y x)
+  bad_form_once w WriteFailed x y = absurd y
+  bad_form_once w (SaveFailed v) x y = absurd y
+  bad_form_once w NoMemory x y = absurd y
+  bad_form_once w (BadForm v) x y =
+      ap BadForm (at_once No No (HasNoScenario (Some held) words w) (HasNoScenario (Some held) words v) w v no_has no_has x y)
+
+  due_of : (s t : Status) → IsDueOf held words call s → IsDueOf held words call t → s ≡ t
+  due_of Ok t x y = ok_once t x y
+  due_of Usage t x y = absurd x
+  due_of (LoadFailed w) t x y = absurd x
+  due_of (TooLong w) t x y = too_long_once w t x y
+  due_of WriteFailed t x y = absurd x
+  due_of (SaveFailed w) t x y = absurd x
+  due_of NoMemory t x y = absurd x
+  due_of (BadForm w) t x y = bad_form_once w t x y
 
 -- one answer at most is due
-pub due_once : (held : Held) (words : Words) (s t : Status) → IsDue held words s → IsDue held words t → s ≡ t
-due_once held words Ok t a b = ok_once held words t a b
-due_once held words Usage t a b = usage_once held words t a b
-due_once held words (LoadFailed w) t a b = absurd a
-due_once held words (TooLong w) t a b = too_long_once held words w t a b
-due_once held words WriteFailed t a b = absurd a
-due_once held words NoMemory t a b = absurd a
-due_once held words (BadForm w) t a b = bad_form_once held words w t a b
+pub due_once : (held : Held) (words : Words) (o : Option Call) (s t : Status) → IsDueBy held words o s → IsDueBy held words o t → s ≡ t
+due_once held words None s t x y = x ∙ sym y
+due_once held words (Some call) s t x y = due_of held words call s t x y
 
--- where an answer is due, it is given, or a fault is
-pub says_exactly : (files : FilesCall) (words : Words) (out : SinkCall) (held : Held) (s t : Status) → files.holds ≡ Some held → Says files words out s → IsDue held words t →
-    IsFault s ⊎ (s ≡ t)
-says_exactly files words out held s t e says due = elim (says_due files words out held s e says) [
-  | inl fault ↦ inl fault
-  | inr mine ↦ inr (due_once held words s t mine due)
-]
+-- ---- an answer that is no fault is due
+
+asked_of : (held : Held) (words : Words) (b : Bundle) (out : SinkCall) (o : Option ℕ) → Prints (Some held) words b out o → HasAsked (Some held) words b o
+asked_of held words b out None prints = tt
+asked_of held words b out (Some w) prints = (prints.scenario, prints.read)
+
+module _ (files : FilesCall) (words : Words) (out : SinkCall) (held : Held) (e : files.holds ≡ Some held) where
+  says_due_of : (call : Call) (s : Status) → SaysOf files words out call s → IsFault s ⊎ IsDueOf held words call s
+  says_due_of call Ok says = inr (record {
+    bundle = says.bundle;
+    has = subst (λ (h : Option Held). HasBundle h words call says.bundle) e says.has;
+    asked = asked_of held words says.bundle out (scenario_word call) (subst (λ (h : Option Held). Prints h words says.bundle out (scenario_word call)) e says.prints);
+  })
+  says_due_of call Usage says = absurd says
+  says_due_of call (LoadFailed w) says = inl tt
+  says_due_of call (TooLong w) says = inr (subst (λ (h : Option Held). IsTooLong h words call w) e says.0)
+  says_due_of call WriteFailed says = inl tt
+  says_due_of call (SaveFailed w) says = inl tt
+  says_due_of call NoMemory says = inl tt
+  says_due_of call (BadForm w) says = inr (subst (λ (h : Option Held). IsOfNoForm h words call w) e says.0)
+
+  says_due : (o : Option Call) (s : Status) → SaysBy files words out o s → IsFault s ⊎ IsDueBy held words o s
+  says_due None s says = inr says.0
+  says_due (Some call) s says = says_due_of call s says
+
+  -- where an answer is due, it is given, or a fault is
+  pub says_exactly : (o : Option Call) (s t : Status) → SaysBy files words out o s → IsDueBy held words o t → IsFault s ⊎ (s ≡ t)
+  says_exactly o s t says due = elim (says_due o s says) [
+    | inl fault ↦ inl fault
+    | inr mine ↦ inr (due_once held words o s t mine due)
+  ]

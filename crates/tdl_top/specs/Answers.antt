@@ -1,137 +1,184 @@
 -- When each answer of a call comes, and what it leaves.
-use Rattle.std.specs.Prelude.{◌≡◌, ◌≤◌, ◌==◌, ℕ, List, length, false, true, ◌⊎◌, if◌then◌else◌}
-use Rattle.std.specs.declared.option.Option.{Option}
+use Rattle.std.specs.Prelude.{◌≡◌, ◌≤◌, ℕ, List, length, ◌⊎◌, ⊤, Option, Some, None}
 use Rattle.tdl_base.specs.declared.limits.TheConstants.{SOURCE_BYTES, SCENARIO_BYTES}
-use Rattle.tdl_io.specs.Outside.{Held, Counts, Reads, IsLonger, Rose, HasNamedCause, Appends, AppendsPart}
+use Rattle.tdl_io.specs.Outside.{Held, Reads, IsLonger, Saves, KeepsOthers, Rose, HasNamedCause, Appends, AppendsPart}
 use Rattle.tdl_plain.specs.declared.form.Form.{Form}
 use Rattle.tdl_plain.specs.PlainSource.{IsPlainSource}
 use Rattle.tdl_scen.specs.declared.entries.Scenario.{Scenario}
 use Rattle.tdl_scen.specs.PlainScenario.{IsPlainScenario}
-use Rattle.tdl_walk.specs.Kept.{run_text}
+use Rattle.tdl_trace.specs.Lines.{module_name, sensor_name}
+use Rattle.tdl_image.specs.declared.bundle.Bundle.{Bundle}
+use Rattle.tdl_image.specs.Spelling.{bundle_bytes}
+use Rattle.tdl_verify.specs.Texts.{bundle_names, bundle_text}
+use Rattle.tdl_meaning.specs.PlainBundle.{plain_bundle}
 use Rattle.tdl_top.specs.declared.status.Status.{Status}
-use Rattle.tdl_top.specs.declared.status.Status.TheVariants.{Ok, Usage, LoadFailed, TooLong, WriteFailed, NoMemory, BadForm}
-use Rattle.tdl_top.specs.Words.{Words, word_at, is_run}
+use Rattle.tdl_top.specs.declared.status.Status.TheVariants.{Ok, Usage, LoadFailed, TooLong, WriteFailed, SaveFailed, NoMemory, BadForm}
+use Rattle.tdl_top.specs.declared.words.Call.{Call}
+use Rattle.tdl_top.specs.Words.{Words, word_at, call_of, out_word, scenario_word}
+use Rattle.tdl_top.specs.Calls.{FilesCall, SinkCall, IsUnchanged, IsSilent}
 
--- what a call finds in its files, and their counts before it and behind it
-pub record FilesCall : Type 0 where
-  pub holds : Option Held
-  pub faults : ℕ
-  pub faults_behind : ℕ
-  pub loads : Option Counts
-  pub loads_behind : Option Counts
+-- ---- the inputs
 
--- what a sink holds before a call and behind it, and its counts
-pub record SinkCall : Type 0 where
-  pub contents : Option (List ℕ)
-  pub contents_behind : Option (List ℕ)
-  pub faults : ℕ
-  pub faults_behind : ℕ
-
--- the greatest length of the file at word w
-abbrev pub limit_at : ℕ → ℕ
-limit_at w = if w == 1 then SOURCE_BYTES else SCENARIO_BYTES
-
--- these bytes were read as the file at word w, within its limit
-pub record IsRead (holds : Option Held) (words : Words) (w : ℕ) (bytes : List ℕ) : Type 0 where
+-- these bytes were read as the file at word w, within the limit
+pub record IsRead (holds : Option Held) (words : Words) (w limit : ℕ) (bytes : List ℕ) : Type 0 where
   pub reads : Reads holds (word_at words w) bytes
-  pub within : length bytes ≤ limit_at w
+  pub within : length bytes ≤ limit
 
--- the file at word 1 was read and is the plain source of this form
-pub record HasSource (holds : Option Held) (words : Words) (form : Form) : Type 0 where
-  pub bytes : List ℕ
-  pub read : IsRead holds words 1 bytes
-  pub plain : IsPlainSource form bytes
+-- the greatest length of a call's first file
+abbrev pub first_limit : Call → ℕ
+first_limit call = SOURCE_BYTES
 
--- the file at word 3 was read and is this plain scenario of the form's sensor
-pub record HasScenario (holds : Option Held) (words : Words) (form : Form) (scenario : Scenario) : Type 0 where
-  pub bytes : List ℕ
-  pub read : IsRead holds words 3 bytes
-  pub plain : IsPlainScenario form.module form.sensor bytes scenario
-
--- a source was read and is plain
-pub record SourceWasPlain (holds : Option Held) (words : Words) : Type 0 where
+-- the bytes are a plain source, and this is its bundle
+pub record IsSourceOf (bundle : Bundle) (bytes : List ℕ) : Type 0 where
   pub form : Form
-  pub source : HasSource holds words form
+  pub plain : IsPlainSource form bytes
+  pub made : bundle ≡ plain_bundle form
 
--- the file at word w was asked for: the source, or the scenario where the source is plain
-abbrev pub IsAskedFor : Option Held → Words → ℕ → Type 0
-IsAskedFor holds words w = (w ≡ 1) ⊎ ((w ≡ 3) × SourceWasPlain holds words)
+-- the bytes of a call's first file give this bundle
+abbrev pub Gives : Call → Bundle → List ℕ → Type 0
+Gives call bundle bytes = IsSourceOf bundle bytes
+
+-- the bytes are a plain scenario, of the names of the bundle's first module and sensor
+abbrev pub IsScenarioOf : Bundle → List ℕ → Scenario → Type 0
+IsScenarioOf bundle bytes scenario =
+    IsPlainScenario (module_name (bundle_names bundle) 0) (sensor_name (bundle_names bundle) 0 0) bytes scenario
+
+-- the first file was read and gives this bundle
+pub record HasBundle (holds : Option Held) (words : Words) (call : Call) (bundle : Bundle) : Type 0 where
+  pub bytes : List ℕ
+  pub read : IsRead holds words 1 (first_limit call) bytes
+  pub gives : Gives call bundle bytes
+
+-- the file at word w was read and is this scenario of the bundle
+pub record HasScenario (holds : Option Held) (words : Words) (bundle : Bundle) (w : ℕ) (scenario : Scenario) : Type 0 where
+  pub bytes : List ℕ
+  pub read : IsRead holds words w SCENARIO_BYTES bytes
+  pub plain : IsScenarioOf bundle bytes scenario
+
+-- the first file was read and gives no bundle
+pub record HasNoBundle (holds : Option Held) (words : Words) (call : Call) : Type 0 where
+  pub bytes : List ℕ
+  pub read : IsRead holds words 1 (first_limit call) bytes
+  pub other : (bundle : Bundle) → Gives call bundle bytes → ⊥
+
+-- the file at word w was read and is no scenario of the bundle
+pub record HasNoScenario (holds : Option Held) (words : Words) (w : ℕ) (bundle : Bundle) : Type 0 where
+  pub bytes : List ℕ
+  pub read : IsRead holds words w SCENARIO_BYTES bytes
+  pub other : (scenario : Scenario) → IsScenarioOf bundle bytes scenario → ⊥
+
+-- ---- what an input is refused for
+
+-- the first file gave a bundle, and this holds behind it
+pub record Behind (holds : Option Held) (words : Words) (call : Call) (fault : Bundle → Type 0) : Type 0 where
+  pub bundle : Bundle
+  pub has : HasBundle holds words call bundle
+  pub is : fault bundle
+
+-- the input at word w has its fault: the first file, or the scenario where the first file gave a bundle
+abbrev pub IsAt : Option Held → Words → Call → ℕ → Type 0 → (Bundle → Type 0) → Type 0
+IsAt holds words call w first second = ((w ≡ 1) × first) ⊎ ((scenario_word call ≡ Some w) × Behind holds words call second)
 
 -- the load of the file at word w failed
-pub record IsLoadFault (files : FilesCall) (words : Words) (w : ℕ) : Type 0 where
-  pub asked : IsAskedFor files.holds words w
+pub record IsLoadFault (files : FilesCall) (words : Words) (call : Call) (w : ℕ) : Type 0 where
+  pub asked : IsAt files.holds words call w ⊤ (λ bundle. ⊤)
   pub rose : Rose files.faults files.faults_behind
   pub named : HasNamedCause files.loads files.loads_behind (word_at words w)
 
 -- the file at word w is longer than its limit
-pub record IsTooLong (holds : Option Held) (words : Words) (w : ℕ) : Type 0 where
-  pub asked : IsAskedFor holds words w
-  pub longer : IsLonger holds (word_at words w) (limit_at w)
-
--- the source was read and is no plain source
-pub record IsNoSource (holds : Option Held) (words : Words) : Type 0 where
-  pub bytes : List ℕ
-  pub read : IsRead holds words 1 bytes
-  pub other : (form : Form) → IsPlainSource form bytes → ⊥
-
--- the scenario was read and is no plain scenario of the source's sensor
-pub record IsNoScenario (holds : Option Held) (words : Words) : Type 0 where
-  pub form : Form
-  pub source : HasSource holds words form
-  pub bytes : List ℕ
-  pub read : IsRead holds words 3 bytes
-  pub other : (scenario : Scenario) → IsPlainScenario form.module form.sensor bytes scenario → ⊥
+abbrev pub IsTooLong : Option Held → Words → Call → ℕ → Type 0
+IsTooLong holds words call w =
+    IsAt holds words call w (IsLonger holds (word_at words 1) (first_limit call)) (λ bundle. IsLonger holds (word_at words w) SCENARIO_BYTES)
 
 -- the file at word w was read and is not of its form
-abbrev pub IsOfNoForm : Option Held → Words → ℕ → Type 0
-IsOfNoForm holds words w = ((w ≡ 1) × IsNoSource holds words) ⊎ ((w ≡ 3) × IsNoScenario holds words)
+abbrev pub IsOfNoForm : Option Held → Words → Call → ℕ → Type 0
+IsOfNoForm holds words call w = IsAt holds words call w (HasNoBundle holds words call) (HasNoScenario holds words w)
 
 -- what an answer says that the inputs give
-abbrev pub InputSays : FilesCall → Words → Status → Type 0
-InputSays files words (LoadFailed w) = IsLoadFault files words w
-InputSays files words (TooLong w) = IsTooLong files.holds words w
-InputSays files words (BadForm w) = IsOfNoForm files.holds words w
-InputSays files words NoMemory = Unit {0}
-InputSays files words status = ⊥
+abbrev pub InputSays : FilesCall → Words → Call → Status → Type 0
+InputSays files words call (LoadFailed w) = IsLoadFault files words call w
+InputSays files words call (TooLong w) = IsTooLong files.holds words call w
+InputSays files words call (BadForm w) = IsOfNoForm files.holds words call w
+InputSays files words call NoMemory = ⊤
+InputSays files words call status = ⊥
 
--- both inputs were read, and the whole text of their run was printed
-pub record PrintsRun (holds : Option Held) (words : Words) (out : SinkCall) : Type 0 where
-  pub form : Form
+-- ---- what a call leaves
+
+-- the scenario that is asked for was read
+abbrev pub HasAsked : Option Held → Words → Bundle → Option ℕ → Type 0
+HasAsked holds words bundle None = ⊤
+HasAsked holds words bundle (Some w) = (scenario : Scenario) × HasScenario holds words bundle w scenario
+
+-- the file that is saved is the bundle's spelling, and no other file changes
+abbrev pub Leaves : FilesCall → Words → Bundle → Option ℕ → Type 0
+Leaves files words bundle None = IsUnchanged files
+Leaves files words bundle (Some w) =
+    Saves files.holds_behind (word_at words w) (bundle_bytes bundle) × KeepsOthers files.holds files.holds_behind (word_at words w)
+
+-- the scenario was read, and the whole text of the bundle's run under it was printed
+pub record PrintsText (holds : Option Held) (words : Words) (bundle : Bundle) (out : SinkCall) (w : ℕ) : Type 0 where
   pub scenario : Scenario
-  pub source : HasSource holds words form
-  pub scenario_read : HasScenario holds words form scenario
-  pub printed : Appends out.contents out.contents_behind (run_text form scenario.senses scenario.horizon.0)
+  pub read : HasScenario holds words bundle w scenario
+  pub printed : Appends out.contents out.contents_behind (bundle_text bundle scenario)
 
--- both inputs were read, and a first part of the text of their run was printed
-pub record PrintsPart (holds : Option Held) (words : Words) (out : SinkCall) : Type 0 where
-  pub form : Form
+-- the scenario was read, and a first part of the text was printed
+pub record PrintsPart (holds : Option Held) (words : Words) (bundle : Bundle) (out : SinkCall) (w : ℕ) : Type 0 where
   pub scenario : Scenario
-  pub source : HasSource holds words form
-  pub scenario_read : HasScenario holds words form scenario
-  pub printed : AppendsPart out.contents out.contents_behind (run_text form scenario.senses scenario.horizon.0)
+  pub read : HasScenario holds words bundle w scenario
+  pub printed : AppendsPart out.contents out.contents_behind (bundle_text bundle scenario)
 
--- nothing was printed
-abbrev pub IsSilent : SinkCall → Type 0
-IsSilent out = out.contents_behind ≡ out.contents
+-- where a scenario is asked for, the text of the run was printed; otherwise nothing was
+abbrev pub Prints : Option Held → Words → Bundle → SinkCall → Option ℕ → Type 0
+Prints holds words bundle out None = IsSilent out
+Prints holds words bundle out (Some w) = PrintsText holds words bundle out w
 
--- nothing was printed, or a first part of the text of the run of the inputs that were read
-abbrev pub PrintsLess : Option Held → Words → SinkCall → Type 0
-PrintsLess holds words out = IsSilent out ⊎ PrintsPart holds words out
+-- a first part of the text was printed, where a scenario is asked for
+abbrev pub PrintsSome : Option Held → Words → Bundle → SinkCall → Option ℕ → Type 0
+PrintsSome holds words bundle out None = ⊥
+PrintsSome holds words bundle out (Some w) = PrintsPart holds words bundle out w
 
--- the answers before anything is printed
-abbrev pub IsRefusal : Status → Type 0
-IsRefusal Usage = Unit {0}
-IsRefusal (LoadFailed w) = Unit {0}
-IsRefusal (TooLong w) = Unit {0}
-IsRefusal (BadForm w) = Unit {0}
-IsRefusal status = ⊥
+-- all that was asked for was done
+pub record IsDone (files : FilesCall) (words : Words) (call : Call) (out : SinkCall) : Type 0 where
+  pub bundle : Bundle
+  pub has : HasBundle files.holds words call bundle
+  pub leaves : Leaves files words bundle (out_word call)
+  pub prints : Prints files.holds words bundle out (scenario_word call)
 
--- what each answer says
+-- the run was printed in part, after the save
+pub record IsPartDone (files : FilesCall) (words : Words) (call : Call) (out : SinkCall) : Type 0 where
+  pub bundle : Bundle
+  pub has : HasBundle files.holds words call bundle
+  pub leaves : Leaves files words bundle (out_word call)
+  pub prints : PrintsSome files.holds words bundle out (scenario_word call)
+
+-- the inputs were read, and the save of the file at word w failed; no other file changes
+pub record IsSaveFault (files : FilesCall) (words : Words) (call : Call) (w : ℕ) : Type 0 where
+  pub bundle : Bundle
+  pub has : HasBundle files.holds words call bundle
+  pub asked : HasAsked files.holds words bundle (scenario_word call)
+  pub word : out_word call ≡ Some w
+  pub rose : Rose files.faults files.faults_behind
+  pub named : HasNamedCause files.saves files.saves_behind (word_at words w)
+  pub others : KeepsOthers files.holds files.holds_behind (word_at words w)
+
+-- ---- what each answer says
+
+-- what an answer says where the words are those of a call
+abbrev pub SaysOf : FilesCall → Words → SinkCall → Call → Status → Type 0
+SaysOf files words out call Ok = IsDone files words call out
+SaysOf files words out call Usage = ⊥
+SaysOf files words out call (LoadFailed w) = IsLoadFault files words call w × IsUnchanged files × IsSilent out
+SaysOf files words out call (TooLong w) = IsTooLong files.holds words call w × IsUnchanged files × IsSilent out
+SaysOf files words out call (BadForm w) = IsOfNoForm files.holds words call w × IsUnchanged files × IsSilent out
+SaysOf files words out call (SaveFailed w) = IsSaveFault files words call w × IsSilent out
+SaysOf files words out call WriteFailed = Rose out.faults out.faults_behind × IsPartDone files words call out
+SaysOf files words out call NoMemory = (IsUnchanged files × IsSilent out) ⊎ IsPartDone files words call out
+
+-- what an answer says by what the words ask for
+abbrev pub SaysBy : FilesCall → Words → SinkCall → Option Call → Status → Type 0
+SaysBy files words out (Some call) status = SaysOf files words out call status
+SaysBy files words out None status = (status ≡ Usage) × IsUnchanged files × IsSilent out
+
+-- what an answer says
 abbrev pub Says : FilesCall → Words → SinkCall → Status → Type 0
-Says files words out Ok = (is_run words ≡ true) × PrintsRun files.holds words out
-Says files words out Usage = (is_run words ≡ false) × IsSilent out
-Says files words out (LoadFailed w) = (is_run words ≡ true) × IsLoadFault files words w × IsSilent out
-Says files words out (TooLong w) = (is_run words ≡ true) × IsTooLong files.holds words w × IsSilent out
-Says files words out (BadForm w) = (is_run words ≡ true) × IsOfNoForm files.holds words w × IsSilent out
-Says files words out WriteFailed = (is_run words ≡ true) × Rose out.faults out.faults_behind × PrintsPart files.holds words out
-Says files words out NoMemory = (is_run words ≡ true) × PrintsLess files.holds words out
+Says files words out status = SaysBy files words out (call_of words) status

@@ -1,14 +1,23 @@
 -- What the error sink holds after a line was put into it.
 use Rattle.std.specs.Prelude.{◌≡◌, ℕ, List, ◌≤◌, ◌⊎◌}
-use Rattle.std.specs.declared.option.Option.{Option}
 use Rattle.tdl_io.specs.Outside.{Rose, Appends, AppendsPart}
+use Rattle.tdl_top.specs.Calls.{SinkCall}
+use Rattle.tdl_top.specs.declared.status.Status.{Status}
+use Rattle.tdl_top.specs.declared.status.Status.TheVariants.{SaveFailed}
+use Rattle.tdl_top.specs.Words.{Words}
+use Rattle.tdl_top.specs.Statuses.{error_line}
 
 -- the line was put once: it was taken whole, or its sink failed and took a first part of it
-pub record IsSaid (before behind : Option (List ℕ)) (faults faults_behind : ℕ) (line : List ℕ) : Type 0 where
-  pub put : Appends before behind line ⊎ (Rose faults faults_behind × AppendsPart before behind line)
-  pub later : faults ≤ faults_behind
+pub record IsSaid (err : SinkCall) (line : List ℕ) : Type 0 where
+  pub put : Appends err.contents err.contents_behind line ⊎ (Rose err.faults err.faults_behind × AppendsPart err.contents err.contents_behind line)
+  pub later : err.faults ≤ err.faults_behind
 
 -- nothing was put
-pub record IsQuiet (before behind : Option (List ℕ)) (faults faults_behind : ℕ) : Type 0 where
-  pub contents : behind ≡ before
-  pub count : faults_behind ≡ faults
+pub record IsQuiet (err : SinkCall) : Type 0 where
+  pub contents : err.contents_behind ≡ err.contents
+  pub count : err.faults_behind ≡ err.faults
+
+-- of a refused call the line of a failed save was put, and no other line yet
+abbrev pub IsToldOfSave : Words → SinkCall → Status → Type 0
+IsToldOfSave words err (SaveFailed w) = IsSaid err (error_line words (SaveFailed w))
+IsToldOfSave words err status = IsQuiet err

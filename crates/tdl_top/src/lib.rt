@@ -3,6 +3,7 @@
 
 mod inputs;
 mod report;
+mod save;
 mod status;
 mod top;
 mod words;

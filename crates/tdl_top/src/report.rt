@@ -1,6 +1,7 @@
-ghost use Rattle.std.specs.Prelude.{◌≡◌, ◌≢◌, ◌⊎◌, IfOk};
+ghost use Rattle.std.specs.Prelude.{◌≡◌, ◌≢◌, ◌⊎◌, ℕ, IfOk};
 ghost use Rattle.tdl_top.specs.Words.{texts, word_at};
 ghost use Rattle.tdl_top.specs.Statuses.{error_line, named_line};
+ghost use Rattle.tdl_top.specs.Calls.{sink_call};
 ghost use Rattle.tdl_top.specs.Reports.{IsSaid};
 
 use crate::Status;
@@ -9,8 +10,8 @@ use std::alloc::Global;
 use tdl_base::NoMemory;
 use tdl_io::Sink;
 
-// The line that names the file at a word.
-fn line_with(alloc: Global, text: &[u8], name: &str) -> Result<Vec<u8>, NoMemory>
+/// The line that names a file.
+pub fn line_with(alloc: Global, text: &[u8], name: &str) -> Result<Vec<u8>, NoMemory>
     ensures { IfOk result (λ line. line.items ≡ named_line text.now name.now) }
 {
     let mut line = Vec::from_slice(alloc, text)?;
@@ -19,9 +20,9 @@ fn line_with(alloc: Global, text: &[u8], name: &str) -> Result<Vec<u8>, NoMemory
     Ok(line)
 }
 
-// Puts a line; a fault of the sink changes nothing.
-fn say<E: Sink>(line: &[u8], err: &mut E)
-    ensures { IsSaid (E.contents err.old) (E.contents err.new) (E.faults err.old) (E.faults err.new) line.now }
+/// Puts a line; a fault of the sink changes nothing.
+pub fn say<E: Sink>(line: &[u8], err: &mut E)
+    ensures { IsSaid (sink_call (E.contents err.old) (E.contents err.new) (E.faults err.old) (E.faults err.new)) line.now }
 {
     let _ = err.put(line);
 }
@@ -36,7 +37,7 @@ fn say_named<E: Sink>(
 ) -> Status
     requires { error_line (texts words.now) status ≡ named_line text.now (word_at (texts words.now) at) }
     ensures kept { (result ≡ status) ⊎ (result ≡ Status.NoMemory) }
-    ensures said { IsSaid (E.contents err.old) (E.contents err.new) (E.faults err.old) (E.faults err.new) (error_line (texts words.now) result) }
+    ensures said { IsSaid (sink_call (E.contents err.old) (E.contents err.new) (E.faults err.old) (E.faults err.new)) (error_line (texts words.now) result) }
 {
     match line_with(alloc, text, word(words, at)) {
         Ok(line) => {
@@ -50,16 +51,18 @@ fn say_named<E: Sink>(
     }
 }
 
-/// Puts the line of a status. Where there is no memory for it, the status is NoMemory.
+/// Puts the line of a status. Where there is no memory for it, the status is NoMemory. The line of a
+/// failed save was put by the save.
 pub fn report<E: Sink>(alloc: Global, words: &[String], status: Status, err: &mut E) -> Status
-    requires { status ≢ Status.Ok }
+    requires ok { status ≢ Status.Ok }
+    requires save { (w : ℕ) → status ≢ Status.SaveFailed w }
     ensures kept { (result ≡ status) ⊎ (result ≡ Status.NoMemory) }
     ensures usage { status ≡ Status.Usage → result ≡ status }
     ensures written { status ≡ Status.WriteFailed → result ≡ status }
-    ensures said { IsSaid (E.contents err.old) (E.contents err.new) (E.faults err.old) (E.faults err.new) (error_line (texts words.now) result) }
+    ensures said { IsSaid (sink_call (E.contents err.old) (E.contents err.new) (E.faults err.old) (E.faults err.new)) (error_line (texts words.now) result) }
 {
     match status {
-        Status::Ok => unreachable!(),
+        Status::Ok | Status::SaveFailed { word: _ } => unreachable!(),
         Status::Usage => {
             say(b"tdl: usage\n", err);
             Status::Usage

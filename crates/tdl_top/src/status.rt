@@ -1,5 +1,6 @@
 ghost use Rattle.std.specs.Prelude.{◌≡◌};
 ghost use Rattle.tdl_top.specs.Statuses.{code_of};
+ghost use Rattle.tdl_top.specs.declared.status.Status.TheVariants.{NoMemory};
 
 /// How a call ended. `word` is the place, from 0, of a file's name in the words of the call.
 #[derive(Clone, Copy, Debug, PartialEq, Eq)]
@@ -14,6 +15,8 @@ pub enum Status {
     TooLong { word: usize },
     /// The output could not be written.
     WriteFailed,
+    /// A file could not be written.
+    SaveFailed { word: usize },
     /// There was no memory.
     NoMemory,
     /// A file is not of the form that is taken today.
@@ -31,8 +34,17 @@ impl Status {
             Status::LoadFailed { word: _ } => 2,
             Status::TooLong { word: _ } => 3,
             Status::WriteFailed => 13,
+            Status::SaveFailed { word: _ } => 14,
             Status::NoMemory => 16,
             Status::BadForm { word: _ } => 17,
         }
+    }
+}
+
+impl From<tdl_base::NoMemory> for Status {
+    ghost from_gives = { λ _ e. e ≡ NoMemory };
+
+    fn from(_refused: tdl_base::NoMemory) -> Status {
+        Status::NoMemory
     }
 }

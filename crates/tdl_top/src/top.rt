@@ -1,47 +1,92 @@
-ghost use Rattle.std.specs.Prelude.{◌≡◌, ◌≢◌, ◌⊎◌, ◌↔◌, ℕ, OnOk, IfErr, false, Some};
+ghost use Rattle.std.specs.Prelude.{◌≡◌, ◌≢◌, ◌⊎◌, ◌↔◌, ℕ, OnOk, IfErr, Some, None};
 ghost use Rattle.tdl_io.specs.Outside.{Held, Rose};
 ghost use Rattle.tdl_top.specs.declared.status.Status.{Status};
-ghost use Rattle.tdl_top.specs.Words.{texts, is_run};
+ghost use Rattle.tdl_top.specs.declared.words.Call.{Call};
+ghost use Rattle.tdl_top.specs.Words.{texts, call_of};
 ghost use Rattle.tdl_top.specs.Statuses.{error_line};
-ghost use Rattle.tdl_top.specs.Reports.{IsSaid, IsQuiet};
-ghost use Rattle.tdl_top.specs.Answers.{Says, IsLoadFault, IsTooLong, IsOfNoForm, IsSilent, IsRefusal, PrintsRun, PrintsPart, PrintsLess};
-ghost use Rattle.tdl_top.specs.Due.{IsDue, IsFault};
-ghost use Rattle.tdl_top.specs.Loads.{call_of, put_of};
+ghost use Rattle.tdl_top.specs.Calls.{SinkCall, files_call, sink_call, IsUnchanged, IsSilent};
+ghost use Rattle.tdl_top.specs.Reports.{IsSaid, IsQuiet, IsToldOfSave};
+ghost use Rattle.tdl_top.specs.Answers.{Says, SaysOf, IsLoadFault, IsTooLong, IsOfNoForm, IsSaveFault, IsPartDone};
+ghost use Rattle.tdl_top.specs.Due.{IsDue, IsFault, IsRefusal};
+ghost use Rattle.tdl_top.specs.Headline.{Compiles, Runs};
 
 use crate::Status;
 use crate::inputs::{read_scenario, read_source};
 use crate::report::report;
-use crate::words::is_run_command;
+use crate::save::save_program;
+use crate::words::{Call, read_call};
 use std::alloc::Global;
 use tdl_io::{Files, Sink};
 use tdl_walk::{RunFault, run};
 
-fn perform<F: Files, O: Sink>(
+// Saves the source's bundle as the file that word `place` names.
+fn compile_source<F: Files, E: Sink>(
+    alloc: Global,
+    words: &[String],
+    place: usize,
+    files: &mut F,
+    err: &mut E,
+) -> Result<(), Status>
+    ensures ok { (out : SinkCall) → IsSilent out → OnOk result (SaysOf (files_call (F.holds files.old) (F.holds files.new) (F.faults files.old) (F.faults files.new) (F.failed_loads files.old) (F.failed_loads files.new) (F.failed_saves files.old) (F.failed_saves files.new)) (texts words.now) out (Call.Compile place) Status.Ok) }
+    ensures refused { (out : SinkCall) → IsSilent out → IfErr result (SaysOf (files_call (F.holds files.old) (F.holds files.new) (F.faults files.old) (F.faults files.new) (F.failed_loads files.old) (F.failed_loads files.new) (F.failed_saves files.old) (F.failed_saves files.new)) (texts words.now) out (Call.Compile place)) }
+    ensures not_ok { IfErr result (λ status. status ≢ Status.Ok) }
+    ensures told { IfErr result (IsToldOfSave (texts words.now) (sink_call (E.contents err.old) (E.contents err.new) (E.faults err.old) (E.faults err.new))) }
+    ensures quiet { OnOk result (IsQuiet (sink_call (E.contents err.old) (E.contents err.new) (E.faults err.old) (E.faults err.new))) }
+{
+    let form = read_source(alloc, files, words)?;
+    save_program(alloc, files, words, place, &form, err)
+}
+
+// Saves the source's bundle as the file that word `place` names, and prints its run under the
+// scenario that word `at` names.
+fn run_source<F: Files, O: Sink, E: Sink>(
+    alloc: Global,
+    words: &[String],
+    place: usize,
+    at: usize,
+    files: &mut F,
+    out: &mut O,
+    err: &mut E,
+) -> Result<(), Status>
+    ensures ok { OnOk result (SaysOf (files_call (F.holds files.old) (F.holds files.new) (F.faults files.old) (F.faults files.new) (F.failed_loads files.old) (F.failed_loads files.new) (F.failed_saves files.old) (F.failed_saves files.new)) (texts words.now) (sink_call (O.contents out.old) (O.contents out.new) (O.faults out.old) (O.faults out.new)) (Call.Run place at) Status.Ok) }
+    ensures refused { IfErr result (SaysOf (files_call (F.holds files.old) (F.holds files.new) (F.faults files.old) (F.faults files.new) (F.failed_loads files.old) (F.failed_loads files.new) (F.failed_saves files.old) (F.failed_saves files.new)) (texts words.now) (sink_call (O.contents out.old) (O.contents out.new) (O.faults out.old) (O.faults out.new)) (Call.Run place at)) }
+    ensures not_ok { IfErr result (λ status. status ≢ Status.Ok) }
+    ensures told { IfErr result (IsToldOfSave (texts words.now) (sink_call (E.contents err.old) (E.contents err.new) (E.faults err.old) (E.faults err.new))) }
+    ensures quiet { OnOk result (IsQuiet (sink_call (E.contents err.old) (E.contents err.new) (E.faults err.old) (E.faults err.new))) }
+{
+    let form = read_source(alloc, files, words)?;
+    let scenario = read_scenario(alloc, files, words, at, &form)?;
+    save_program(alloc, files, words, place, &form, err)?;
+    let senses = scenario.senses.as_slice();
+    match run(alloc, &form, senses, scenario.horizon.0, out) {
+        Ok(()) => Ok(()),
+        Err(RunFault::WriteFailed) => Err(Status::WriteFailed),
+        Err(RunFault::NoMemory) => Err(Status::NoMemory),
+    }
+}
+
+fn perform<F: Files, O: Sink, E: Sink>(
     alloc: Global,
     words: &[String],
     files: &mut F,
     out: &mut O,
+    err: &mut E,
 ) -> Result<(), Status>
-    ensures ok { OnOk result (Says (call_of (F.holds files.old) (F.faults files.old) (F.faults files.new) (F.failed_loads files.old) (F.failed_loads files.new)) (texts words.now) (put_of (O.contents out.old) (O.contents out.new) (O.faults out.old) (O.faults out.new)) Status.Ok) }
-    ensures refused { IfErr result (Says (call_of (F.holds files.old) (F.faults files.old) (F.faults files.new) (F.failed_loads files.old) (F.failed_loads files.new)) (texts words.now) (put_of (O.contents out.old) (O.contents out.new) (O.faults out.old) (O.faults out.new))) }
+    ensures ok { OnOk result (Says (files_call (F.holds files.old) (F.holds files.new) (F.faults files.old) (F.faults files.new) (F.failed_loads files.old) (F.failed_loads files.new) (F.failed_saves files.old) (F.failed_saves files.new)) (texts words.now) (sink_call (O.contents out.old) (O.contents out.new) (O.faults out.old) (O.faults out.new)) Status.Ok) }
+    ensures refused { IfErr result (Says (files_call (F.holds files.old) (F.holds files.new) (F.faults files.old) (F.faults files.new) (F.failed_loads files.old) (F.failed_loads files.new) (F.failed_saves files.old) (F.failed_saves files.new)) (texts words.now) (sink_call (O.contents out.old) (O.contents out.new) (O.faults out.old) (O.faults out.new))) }
     ensures not_ok { IfErr result (λ status. status ≢ Status.Ok) }
-    ensures held { F.holds files.new ≡ F.holds files.old }
+    ensures told { IfErr result (IsToldOfSave (texts words.now) (sink_call (E.contents err.old) (E.contents err.new) (E.faults err.old) (E.faults err.new))) }
+    ensures quiet { OnOk result (IsQuiet (sink_call (E.contents err.old) (E.contents err.new) (E.faults err.old) (E.faults err.new))) }
 {
-    if !is_run_command(words) {
-        return Err(Status::Usage);
-    }
-    let form = read_source(alloc, files, words)?;
-    let scenario = read_scenario(alloc, files, words, &form)?;
-    match run(
-        alloc,
-        &form,
-        scenario.senses.as_slice(),
-        scenario.horizon.0,
-        out,
-    ) {
-        Ok(()) => Ok(()),
-        Err(RunFault::WriteFailed) => Err(Status::WriteFailed),
-        Err(RunFault::NoMemory) => Err(Status::NoMemory),
+    match read_call(words) {
+        None => Err(Status::Usage),
+        Some(Call::Compile { out: place }) => compile_source(alloc, words, place, files, err),
+        Some(
+            Call::Run {
+                out: place,
+                scenario,
+            },
+        ) => run_source(alloc, words, place, scenario, files, out, err),
     }
 }
 
@@ -52,13 +97,13 @@ fn answer<F: Files, O: Sink, E: Sink>(
     out: &mut O,
     err: &mut E,
 ) -> Status
-    ensures says { Says (call_of (F.holds files.old) (F.faults files.old) (F.faults files.new) (F.failed_loads files.old) (F.failed_loads files.new)) (texts words.now) (put_of (O.contents out.old) (O.contents out.new) (O.faults out.old) (O.faults out.new)) result }
-    ensures held { F.holds files.new ≡ F.holds files.old }
-    ensures line { result ≢ Status.Ok → IsSaid (E.contents err.old) (E.contents err.new) (E.faults err.old) (E.faults err.new) (error_line (texts words.now) result) }
-    ensures quiet { result ≡ Status.Ok → IsQuiet (E.contents err.old) (E.contents err.new) (E.faults err.old) (E.faults err.new) }
+    ensures says { Says (files_call (F.holds files.old) (F.holds files.new) (F.faults files.old) (F.faults files.new) (F.failed_loads files.old) (F.failed_loads files.new) (F.failed_saves files.old) (F.failed_saves files.new)) (texts words.now) (sink_call (O.contents out.old) (O.contents out.new) (O.faults out.old) (O.faults out.new)) result }
+    ensures line { result ≢ Status.Ok → IsSaid (sink_call (E.contents err.old) (E.contents err.new) (E.faults err.old) (E.faults err.new)) (error_line (texts words.now) result) }
+    ensures quiet { result ≡ Status.Ok → IsQuiet (sink_call (E.contents err.old) (E.contents err.new) (E.faults err.old) (E.faults err.new)) }
 {
-    match perform(alloc, words, files, out) {
+    match perform(alloc, words, files, out, err) {
         Ok(()) => Status::Ok,
+        Err(Status::SaveFailed { word }) => Status::SaveFailed { word },
         Err(status) => report(alloc, words, status, err),
     }
 }
@@ -66,10 +111,12 @@ fn answer<F: Files, O: Sink, E: Sink>(
 /// Does all that the program does: takes the words of the command line, the files, and the sinks for
 /// the output and for the line of an error, and says how it ended.
 ///
-/// The words are `run FILE --scen FILE`, which name a plain source of at most 262,144 bytes and a
-/// plain scenario of at most 4,194,304. The rows of the program's logical execution, up to the
-/// scenario's horizon in microseconds and with it, are put on `out`, each line in one piece. Every
-/// other answer than Ok puts its line on `err`. NoMemory may come in place of any answer but Usage.
+/// The words are `compile FILE --out FILE`, which saves the bundle of a source, or
+/// `run FILE --out FILE --scen FILE`, its options in any order, which also prints the bundle's run
+/// under a scenario. The source is plain and has at most 262,144 bytes; the scenario is plain and has
+/// at most 4,194,304. The rows go up to the scenario's horizon in microseconds and with it, each line
+/// put on `out` in one piece. Every other answer than Ok puts its line on `err`. NoMemory may come in
+/// place of any answer but Usage and SaveFailed.
 pub fn tdl<F: Files, O: Sink, E: Sink>(
     alloc: Global,
     words: &[String],
@@ -77,28 +124,32 @@ pub fn tdl<F: Files, O: Sink, E: Sink>(
     out: &mut O,
     err: &mut E,
 ) -> Status
-    // Ok: both inputs were read and are plain, and the whole text of their run was printed.
-    ensures ok { result ≡ Status.Ok → PrintsRun (F.holds files.old) (texts words.now) (put_of (O.contents out.old) (O.contents out.new) (O.faults out.old) (O.faults out.new)) }
+    // Ok: the file that was saved is the spelling of a bundle that realises the program, and what was
+    // printed is that bundle's run, which is the program's logical rows.
+    ensures compiles { (w : ℕ) → result ≡ Status.Ok → call_of (texts words.now) ≡ Some (Call.Compile w) → Compiles (files_call (F.holds files.old) (F.holds files.new) (F.faults files.old) (F.faults files.new) (F.failed_loads files.old) (F.failed_loads files.new) (F.failed_saves files.old) (F.failed_saves files.new)) (texts words.now) w × IsSilent (sink_call (O.contents out.old) (O.contents out.new) (O.faults out.old) (O.faults out.new)) }
+    ensures runs { (w v : ℕ) → result ≡ Status.Ok → call_of (texts words.now) ≡ Some (Call.Run w v) → Runs (files_call (F.holds files.old) (F.holds files.new) (F.faults files.old) (F.faults files.new) (F.failed_loads files.old) (F.failed_loads files.new) (F.failed_saves files.old) (F.failed_saves files.new)) (texts words.now) (sink_call (O.contents out.old) (O.contents out.new) (O.faults out.old) (O.faults out.new)) w v }
 
     // Each other answer comes only where its cause is, and no earlier step refused.
-    ensures usage { (result ≡ Status.Usage) ↔ (is_run (texts words.now) ≡ false) }
-    ensures load_failed { (w : ℕ) → result ≡ Status.LoadFailed w → IsLoadFault (call_of (F.holds files.old) (F.faults files.old) (F.faults files.new) (F.failed_loads files.old) (F.failed_loads files.new)) (texts words.now) w }
-    ensures too_long { (w : ℕ) → result ≡ Status.TooLong w → IsTooLong (F.holds files.old) (texts words.now) w }
-    ensures bad_form { (w : ℕ) → result ≡ Status.BadForm w → IsOfNoForm (F.holds files.old) (texts words.now) w }
+    ensures usage { (result ≡ Status.Usage) ↔ (call_of (texts words.now) ≡ None) }
+    ensures load_failed { (call : Call) (w : ℕ) → call_of (texts words.now) ≡ Some call → result ≡ Status.LoadFailed w → IsLoadFault (files_call (F.holds files.old) (F.holds files.new) (F.faults files.old) (F.faults files.new) (F.failed_loads files.old) (F.failed_loads files.new) (F.failed_saves files.old) (F.failed_saves files.new)) (texts words.now) call w }
+    ensures too_long { (call : Call) (w : ℕ) → call_of (texts words.now) ≡ Some call → result ≡ Status.TooLong w → IsTooLong (F.holds files.old) (texts words.now) call w }
+    ensures bad_form { (call : Call) (w : ℕ) → call_of (texts words.now) ≡ Some call → result ≡ Status.BadForm w → IsOfNoForm (F.holds files.old) (texts words.now) call w }
     ensures write_failed { result ≡ Status.WriteFailed → Rose (O.faults out.old) (O.faults out.new) }
+    ensures save_failed { (call : Call) (w : ℕ) → call_of (texts words.now) ≡ Some call → result ≡ Status.SaveFailed w → IsSaveFault (files_call (F.holds files.old) (F.holds files.new) (F.faults files.old) (F.faults files.new) (F.failed_loads files.old) (F.failed_loads files.new) (F.failed_saves files.old) (F.failed_saves files.new)) (texts words.now) call w }
 
     // Where the files tell what they hold, the answer that is due comes, or that of a fault.
     ensures exactly { (held : Held) (status : Status) → F.holds files.old ≡ Some held → IsDue held (texts words.now) status → IsFault result ⊎ (result ≡ status) }
 
-    // What `out` holds behind each answer.
-    ensures silent { IsRefusal result → IsSilent (put_of (O.contents out.old) (O.contents out.new) (O.faults out.old) (O.faults out.new)) }
-    ensures written_part { result ≡ Status.WriteFailed → PrintsPart (F.holds files.old) (texts words.now) (put_of (O.contents out.old) (O.contents out.new) (O.faults out.old) (O.faults out.new)) }
-    ensures printed_part { result ≡ Status.NoMemory → PrintsLess (F.holds files.old) (texts words.now) (put_of (O.contents out.old) (O.contents out.new) (O.faults out.old) (O.faults out.new)) }
+    // What the files and `out` hold behind each answer. No file changes but the one that is saved.
+    ensures unchanged { IsRefusal result → IsUnchanged (files_call (F.holds files.old) (F.holds files.new) (F.faults files.old) (F.faults files.new) (F.failed_loads files.old) (F.failed_loads files.new) (F.failed_saves files.old) (F.failed_saves files.new)) }
+    ensures silent { IsRefusal result → IsSilent (sink_call (O.contents out.old) (O.contents out.new) (O.faults out.old) (O.faults out.new)) }
+    ensures silent_save { (w : ℕ) → result ≡ Status.SaveFailed w → IsSilent (sink_call (O.contents out.old) (O.contents out.new) (O.faults out.old) (O.faults out.new)) }
+    ensures written_part { (call : Call) → call_of (texts words.now) ≡ Some call → result ≡ Status.WriteFailed → IsPartDone (files_call (F.holds files.old) (F.holds files.new) (F.faults files.old) (F.faults files.new) (F.failed_loads files.old) (F.failed_loads files.new) (F.failed_saves files.old) (F.failed_saves files.new)) (texts words.now) call (sink_call (O.contents out.old) (O.contents out.new) (O.faults out.old) (O.faults out.new)) }
+    ensures printed_part { (call : Call) → call_of (texts words.now) ≡ Some call → result ≡ Status.NoMemory → (IsUnchanged (files_call (F.holds files.old) (F.holds files.new) (F.faults files.old) (F.faults files.new) (F.failed_loads files.old) (F.failed_loads files.new) (F.failed_saves files.old) (F.failed_saves files.new)) × IsSilent (sink_call (O.contents out.old) (O.contents out.new) (O.faults out.old) (O.faults out.new))) ⊎ IsPartDone (files_call (F.holds files.old) (F.holds files.new) (F.faults files.old) (F.faults files.new) (F.failed_loads files.old) (F.failed_loads files.new) (F.failed_saves files.old) (F.failed_saves files.new)) (texts words.now) call (sink_call (O.contents out.old) (O.contents out.new) (O.faults out.old) (O.faults out.new)) }
 
-    // Every answer but Ok puts its line on `err` once; no file changes.
-    ensures line { result ≢ Status.Ok → IsSaid (E.contents err.old) (E.contents err.new) (E.faults err.old) (E.faults err.new) (error_line (texts words.now) result) }
-    ensures quiet { result ≡ Status.Ok → IsQuiet (E.contents err.old) (E.contents err.new) (E.faults err.old) (E.faults err.new) }
-    ensures held { F.holds files.new ≡ F.holds files.old }
+    // Every answer but Ok puts its line on `err` once.
+    ensures line { result ≢ Status.Ok → IsSaid (sink_call (E.contents err.old) (E.contents err.new) (E.faults err.old) (E.faults err.new)) (error_line (texts words.now) result) }
+    ensures quiet { result ≡ Status.Ok → IsQuiet (sink_call (E.contents err.old) (E.contents err.new) (E.faults err.old) (E.faults err.new)) }
 {
     answer(alloc, words, files, out, err)
 }

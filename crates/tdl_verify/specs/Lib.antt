@@ -3,3 +3,4 @@ pub mod Turns
 pub mod Micros
 pub mod Bus
 pub mod Runs
+pub mod Texts

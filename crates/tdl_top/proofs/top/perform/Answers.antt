@@ -1,11 +1,18 @@
-use Rattle.std.proofs.Common.{rules, refl}
-use Rattle.std.proofs.lemmas.Result.{err_from_is_err_and}
-use Rattle.tdl_top.proofs.Saying.{says_earlier, says_input}
+use Rattle.std.proofs.Common.{refl, ap, sym, ◌∙◌, Some}
+use Rattle.std.proofs.lemmas.Result.{IfErr-weaker}
+use Rattle.tdl_top.specs.declared.words.Call.TheVariants.{Compile}
+use Rattle.tdl_top.specs.Words.{texts, call_of}
+use Rattle.tdl_top.specs.Calls.{files_call, sink_call}
+use Rattle.tdl_top.proofs.Saying.{says_called}
 use Rattle.tdl_top.proofs.top.perform.Goals as goal
 
-pub returns-in_err-scenario-clause-refused : goal.returns-in_err-scenario-clause-refused
-returns-in_err-scenario-clause-refused g c =
-    let p = err_from_is_err_and c.from_residual-in_err-scenario.result c.from_residual-in_err-scenario.ensures.1 in
-    rw (p.1, p.2)
-    (says_input _ _ _ _ (search rules) refl
-    (says_earlier _ _ _ _ _ _ _ _ _ _ c.read_source.ensures.held c.read_source.ensures.later c.read_source.ensures.counts c.in_err-scenario.ensures.refused))
+pub returns-in-Some-Compile-clause-refused : goal.returns-in-Some-Compile-clause-refused
+returns-in-Some-Compile-clause-refused g c =
+    IfErr-weaker c.compile_source.result _ _ (λ status says.
+    says_called
+    (files_call (g.F.Files.holds c.args.files.now) (g.F.Files.holds c.compile_source.new.files) (g.F.Files.faults c.args.files.now) (g.F.Files.faults c.compile_source.new.files) (g.F.Files.failed_loads c.args.files.now) (g.F.Files.failed_loads c.compile_source.new.files) (g.F.Files.failed_saves c.args.files.now) (g.F.Files.failed_saves c.compile_source.new.files))
+    (texts c.args.words.now)
+    (sink_call (g.O.Sink.contents c.args.out.now) (g.O.Sink.contents c.args.out.now) (g.O.Sink.faults c.args.out.now) (g.O.Sink.faults c.args.out.now))
+    (call_of (texts c.args.words.now)) (Compile c.in-Some-Compile.place) status (ap Some (sym c.in-Some-Compile.field-0-is) ∙ c.in-Some-Compile.ensures) says)
+    (c.compile_source.ensures.refused
+    (sink_call (g.O.Sink.contents c.args.out.now) (g.O.Sink.contents c.args.out.now) (g.O.Sink.faults c.args.out.now) (g.O.Sink.faults c.args.out.now)) refl)
