@@ -10,7 +10,7 @@ use Rattle.tdl_image.specs.declared.bundle.Bundle.{Bundle}
 use Rattle.tdl_image.specs.declared.bundle.Image.{Image}
 use Rattle.tdl_trace.specs.Shown.{Shown}
 use Rattle.tdl_verify.specs.States.{Times}
-use Rattle.tdl_verify.specs.Runs.{Run, Now, machine_run, no_loss, is_plain}
+use Rattle.tdl_verify.specs.Runs.{Run, IsAlive, machine_run, no_loss, is_plain}
 use Rattle.tdl_gen.specs.Tables.{hosted_on, stubs_on}
 use Rattle.tdl_gen.specs.Counts.{declared_of}
 
@@ -46,11 +46,6 @@ worst_at p m t = option_map (λ u. u.worst.0) (option_and_then (λ d. slice_get 
 -- each job takes at least a microsecond and at most its task's worst case
 abbrev pub IsWithinWorst : Program → Times → Type 0
 IsWithinWorst p times = (m t k w : ℕ) → worst_at p m t ≡ Some w → (0 < times m t k) × (times m t k ≤ w)
-
--- the run has come to its end without a trap
-abbrev pub IsAlive : Now → Type 0
-IsAlive (Now.Alive s) = Unit {0}
-IsAlive (Now.Dead node at why) = ⊥
 
 -- the rows of a run, without the log
 abbrev pub rows_of : Run → List Shown

@@ -16,8 +16,8 @@ use Rattle.tdl_walk.specs.PlainState.{plain_state, sum_of}
 use Rattle.tdl_walk.specs.Kept.{IsRunnable}
 use Rattle.tdl_walk.proofs.Laws as law
 use Rattle.tdl_verify.specs.States.{Slot, Times, Sensed, Stretch}
-use Rattle.tdl_verify.specs.Runs.{System, Run, Now, Micros, all_micros, next_instant, run_to, gone_on, no_loss, is_plain}
-use Rattle.tdl_gen.specs.Realises.{IsAlive, IsWithinWorst, HasMeaning}
+use Rattle.tdl_verify.specs.Runs.{System, Run, Now, IsAlive, Micros, all_micros, next_instant, run_to, gone_on, no_loss, is_plain}
+use Rattle.tdl_gen.specs.Realises.{IsWithinWorst, HasMeaning}
 use Rattle.tdl_meaning.specs.PlainBundle.{plain_bundle, plain_system}
 use Rattle.tdl_meaning.proofs.PlainSteps.{starts, starts_rows, rests, turns, walked, ran_none, turn_plain, works, completes, waits_in, waits_behind, in_window, nodes, node_of, turn_rows}
 

@@ -10,9 +10,9 @@ use Rattle.tdl_deploy.specs.Rows.{logical_rows}
 use Rattle.tdl_plain.specs.declared.form.Form.{Form}
 use Rattle.tdl_plain.specs.PlainProgram.{program_of}
 use Rattle.tdl_walk.specs.Kept.{IsRunnable, run_text}
-use Rattle.tdl_verify.specs.Runs.{Run, Now, trap_rows, plain_rows, is_plain}
+use Rattle.tdl_verify.specs.Runs.{Run, Now, IsAlive, trap_rows, plain_rows, is_plain}
 use Rattle.tdl_verify.specs.Texts.{bundle_names, bundle_run, bundle_text, times_in}
-use Rattle.tdl_gen.specs.Realises.{IsAlive, IsWithinWorst, IsRunOf}
+use Rattle.tdl_gen.specs.Realises.{IsWithinWorst, IsRunOf}
 use Rattle.tdl_meaning.specs.PlainBundle.{plain_bundle}
 use Rattle.tdl_meaning.proofs.PlainMeaning.{means}
 

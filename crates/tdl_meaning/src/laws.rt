@@ -5,8 +5,9 @@ ghost use Rattle.tdl_plain.specs.declared.form.Form.{Form};
 ghost use Rattle.tdl_plain.specs.PlainProgram.{program_of};
 ghost use Rattle.tdl_scen.specs.declared.entries.Scenario.{Scenario};
 ghost use Rattle.tdl_walk.specs.Kept.{IsRunnable, run_text};
+ghost use Rattle.tdl_verify.specs.Runs.{IsAlive};
 ghost use Rattle.tdl_verify.specs.Texts.{bundle_run, bundle_text};
-ghost use Rattle.tdl_gen.specs.Realises.{bundle_of, Realises, IsAlive};
+ghost use Rattle.tdl_gen.specs.Realises.{bundle_of, Realises};
 ghost use Rattle.tdl_meaning.specs.PlainBundle.{plain_bundle, plain_schedule};
 
 /// A plain program whose task has the processor for its worst case from the start of each cycle:

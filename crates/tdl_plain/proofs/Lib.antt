@@ -5,3 +5,4 @@ pub mod Sentences
 pub mod Spelling
 pub mod Values
 pub mod Unique
+pub mod Checked

@@ -15,11 +15,11 @@ use Rattle.tdl_plain.specs.Reading.{text_at, sentence_of, are_names, are_apart, 
 use Rattle.tdl_plain.proofs.Lexemes.{letter_name}
 
 -- texts that the test tells apart differ
-differ : (xs ys : List ℕ) → not (bytes_eq xs ys) ≡ true → xs ≢ ys
+pub differ : (xs ys : List ℕ) → not (bytes_eq xs ys) ≡ true → xs ≢ ys
 differ xs ys apart e = false≢true (sym (not-true (bytes_eq xs ys) apart) ∙ (bytes_eq-Decides xs ys).1 e)
 
 -- and the test tells texts apart that differ
-told : (xs ys : List ℕ) → xs ≢ ys → not (bytes_eq xs ys) ≡ true
+pub told : (xs ys : List ℕ) → xs ≢ ys → not (bytes_eq xs ys) ≡ true
 told xs ys ne = not_from_false (bytes_eq xs ys) (false_from_ne_true (bytes_eq xs ys) (λ same. ne ((bytes_eq-Decides xs ys).0 same)))
 
 -- what `are_names` tests

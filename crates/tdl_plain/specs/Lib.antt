@@ -2,3 +2,4 @@ pub mod PlainSource
 pub mod Reading
 pub mod Tokens
 pub mod PlainProgram
+pub mod Checking

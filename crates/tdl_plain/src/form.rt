@@ -1,5 +1,9 @@
-ghost use Rattle.std.specs.Prelude.{◌≡◌};
+ghost use Rattle.std.specs.Prelude.{◌≡◌, ◌↔◌, IsTrue};
+ghost use Rattle.tdl_plain.specs.Checking as checking;
+ghost use Rattle.tdl_plain.specs.PlainSource.{IsPlainForm};
 
+use crate::lawful::{Numbers, in_range};
+use crate::words::is_name;
 use std::alloc::{AllocError, AllocFailed};
 use tdl_base::Text;
 use thiserror::Error;
@@ -20,6 +24,51 @@ pub struct Form {
     pub mode: Text,
     /// The mode's period, in milliseconds: 1 to 10,000.
     pub period: u64,
+}
+
+impl Form {
+    fn has_names(&self) -> bool
+        ensures { result ≡ checking.has_names self.now }
+    {
+        is_name(self.module.as_str().as_bytes())
+            && is_name(self.sensor.as_str().as_bytes())
+            && is_name(self.task.as_str().as_bytes())
+            && is_name(self.input.as_str().as_bytes())
+            && is_name(self.output.as_str().as_bytes())
+            && is_name(self.mode.as_str().as_bytes())
+    }
+
+    fn is_apart(&self) -> bool
+        ensures { result ≡ checking.is_apart self.now }
+    {
+        self.sensor.as_str() != self.task.as_str()
+            && self.sensor.as_str() != self.mode.as_str()
+            && self.task.as_str() != self.mode.as_str()
+            && self.input.as_str() != self.output.as_str()
+    }
+
+    fn numbers(&self) -> Numbers
+        ensures { result ≡ checking.numbers_in self.now }
+    {
+        Numbers {
+            worst: self.worst,
+            initial: self.initial,
+            period: self.period,
+        }
+    }
+
+    fn is_lawful(&self) -> bool
+        ensures { result ≡ checking.is_lawful self.now }
+    {
+        self.has_names() && self.is_apart() && in_range(&self.numbers())
+    }
+
+    /// Whether the names are names, those that must differ do, and the numbers are in range.
+    pub fn is_plain(&self) -> bool
+        ensures { IsTrue result ↔ IsPlainForm self.now }
+    {
+        self.is_lawful()
+    }
 }
 
 /// Why a source gave no form.

@@ -41,7 +41,8 @@ fn are_apart(parts: &Parts) -> bool
         && parts.input != parts.output
 }
 
-fn in_range(numbers: &Numbers) -> bool
+/// Whether the numbers are in range.
+pub fn in_range(numbers: &Numbers) -> bool
     ensures { result ≡ reading.in_range numbers.now }
 {
     1 <= numbers.period

@@ -10,6 +10,7 @@ mod words;
 
 pub use form::{Form, SourceError};
 pub use read::read_plain_source;
+pub use words::is_name;
 
 #[cfg(test)]
 mod tests {
@@ -88,6 +89,7 @@ mod tests {
         assert_eq!(rt; form.initial, 10);
         assert_eq!(rt; form.mode.as_str(), "main");
         assert_eq!(rt; form.period, 5);
+        assert_eq!(rt; form.is_plain(), true);
         Ok(())
     }
 

@@ -41,6 +41,7 @@ fn is_reserved(token: &[u8]) -> bool
     is_among(token, &RESERVED_WORDS)
 }
 
+/// Whether the bytes are an identifier of at most 64 bytes and no reserved word.
 pub fn is_name(token: &[u8]) -> bool
     ensures { result ≡ spec.is_name token.now }
 {

@@ -1,18 +1,20 @@
 -- What a call that goes well has done, in the words of programs.
-use Rattle.std.proofs.Common.{ℕ, List, subst, sym, ap, ◌∙◌}
+use Rattle.std.proofs.Common.{◌≡◌, ℕ, List, [], subst, sym, ap, ◌∙◌}
 use Rattle.tdl_deploy.specs.Named.{one_node}
 use Rattle.tdl_plain.specs.PlainProgram.{program_of}
 use Rattle.tdl_image.specs.declared.bundle.Bundle.{Bundle}
-use Rattle.tdl_verify.specs.Texts.{bundle_text}
+use Rattle.tdl_scen.specs.declared.entries.Scenario.{Scenario}
+use Rattle.tdl_verify.specs.Texts.{bundle_run, bundle_text}
+use Rattle.tdl_verify.specs.Runs.{IsAlive}
 use Rattle.tdl_gen.specs.Realises.{Realises}
-use Rattle.tdl_meaning.specs.PlainBundle.{plain_bundle, plain_schedule}
-use Rattle.tdl_meaning.proofs.PlainText.{plain_text}
+use Rattle.tdl_meaning.specs.PlainBundle.{plain_bundle, plain_schedule, IsPlainBundle}
+use Rattle.tdl_meaning.proofs.PlainText.{plain_alive, plain_text}
 use Rattle.tdl_meaning.proofs.PlainRealises.{realises}
-use Rattle.tdl_top.specs.declared.words.Call.TheVariants.{Compile, Run}
+use Rattle.tdl_top.specs.declared.words.Call.TheVariants.{Compile, Run, Exec}
 use Rattle.tdl_top.specs.Words.{Words}
-use Rattle.tdl_top.specs.Calls.{FilesCall, SinkCall, IsSilent}
+use Rattle.tdl_top.specs.Calls.{FilesCall, SinkCall, IsSilent, IsUnchanged}
 use Rattle.tdl_top.specs.Answers.{IsDone, IsSourceOf, IsScenarioOf}
-use Rattle.tdl_top.specs.Headline.{Compiles, Runs}
+use Rattle.tdl_top.specs.Headline.{Compiles, Runs, Executes}
 use Rattle.tdl_top.proofs.Saying.{runnable}
 
 -- the bundle of a plain source realises its program
@@ -59,3 +61,20 @@ runs files words out w v done = record {
   where
     plain : IsScenarioOf (plain_bundle done.has.gives.form) done.prints.read.bytes done.prints.scenario
     plain = subst (λ (b : Bundle). IsScenarioOf b done.prints.read.bytes done.prints.scenario) done.has.gives.made done.prints.read.plain
+
+-- the run of a plain bundle has no trap
+pub bundle_alive : (b : Bundle) (s : Scenario) → IsPlainBundle b → s.times ≡ [] → IsAlive (bundle_run b s).now
+bundle_alive b s plain e = subst (λ (c : Bundle). IsAlive (bundle_run c s).now) (sym plain.is) (plain_alive plain.form (runnable plain.form plain.lawful) s e)
+
+pub executes : (files : FilesCall) (words : Words) (out : SinkCall) (v : ℕ) → IsDone files words (Exec v) out → Executes files words out v × IsUnchanged files
+executes files words out v done = (
+  record {
+    bundle = done.bundle;
+    scenario = done.prints.scenario;
+    bundle_read = record { bytes = done.has.bytes; read = done.has.read; plain = done.has.gives.plain; spelled = done.has.gives.spelled };
+    read = done.prints.read;
+    alive = bundle_alive done.bundle done.prints.scenario done.has.gives.plain done.prints.read.plain.times;
+    printed = done.prints.printed;
+  },
+  done.leaves,
+)

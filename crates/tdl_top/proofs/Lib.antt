@@ -1,3 +1,4 @@
 pub mod Saying
 pub mod Once
 pub mod Done
+pub mod Printing

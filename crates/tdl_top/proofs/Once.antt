@@ -9,7 +9,9 @@ use Rattle.tdl_scen.specs.declared.entries.Scenario.{Scenario}
 use Rattle.tdl_meaning.specs.PlainBundle.{plain_bundle}
 use Rattle.tdl_top.specs.declared.status.Status.{Status}
 use Rattle.tdl_top.specs.declared.status.Status.TheVariants.{Ok, Usage, LoadFailed, TooLong, WriteFailed, SaveFailed, NoMemory, BadForm}
+use Rattle.tdl_read.proofs.Again.{one_spelling}
 use Rattle.tdl_top.specs.declared.words.Call.{Call}
+use Rattle.tdl_top.specs.declared.words.Call.TheVariants.{Compile, Run, Exec}
 use Rattle.tdl_top.specs.Words.{Words, word_at, scenario_word}
 use Rattle.tdl_top.specs.Calls.{FilesCall, SinkCall}
 use Rattle.tdl_top.specs.Answers.{IsRead, Gives, IsScenarioOf, HasBundle, HasNoBundle, HasScenario, HasNoScenario, HasAsked, IsAt, IsTooLong, IsOfNoForm, Prints, SaysOf, SaysBy, first_limit}
@@ -27,7 +29,9 @@ not_long held words w l a x long = let le = subst (λ (b : List ℕ). length b �
 
 -- bytes give one bundle at most
 gives_once : (call : Call) (a b : Bundle) (bytes : List ℕ) → Gives call a bytes → Gives call b bytes → a ≡ b
-gives_once call a b bytes x y = x.made ∙ ap plain_bundle (source_unique x.form y.form bytes x.plain y.plain) ∙ sym y.made
+gives_once (Compile out) a b bytes x y = x.made ∙ ap plain_bundle (source_unique x.form y.form bytes x.plain y.plain) ∙ sym y.made
+gives_once (Run out scenario) a b bytes x y = x.made ∙ ap plain_bundle (source_unique x.form y.form bytes x.plain y.plain) ∙ sym y.made
+gives_once (Exec scenario) a b bytes x y = one_spelling a b x.plain y.plain (sym x.spelled ∙ y.spelled)
 
 module _ (held : Held) (words : Words) (call : Call) where
   bundle_once : (a b : Bundle) → HasBundle (Some held) words call a → HasBundle (Some held) words call b → a ≡ b

@@ -2,26 +2,24 @@
 use Rattle.std.proofs.Common.{◌≡◌, ◌≤◌, ℕ, List, subst, sym, ap, arith, inl, inr, refl, ◌∙◌, Option, Some, None}
 use Rattle.std.specs.Prelude.{◌≢◌, ◌↔◌, ◌⊎◌}
 use Rattle.tdl_io.specs.Outside.{Held, Counts, HasNamedCause, NoCountFalls, NoCountChanges, KeepsOthers, IsLonger, Appends, AppendsPart}
-use Rattle.tdl_base.specs.declared.limits.TheConstants.{SCENARIO_BYTES}
+use Rattle.tdl_base.specs.declared.limits.TheConstants.{SOURCE_BYTES, SCENARIO_BYTES}
 use Rattle.tdl_plain.specs.declared.form.Form.{Form}
-use Rattle.tdl_plain.specs.PlainSource.{IsPlainForm}
+use Rattle.tdl_plain.specs.PlainSource.{IsPlainForm, IsPlainSource}
 use Rattle.tdl_scen.specs.declared.entries.Scenario.{Scenario}
-use Rattle.tdl_scen.specs.declared.entries.Sense.{Sense}
-use Rattle.tdl_walk.specs.Kept.{IsRunnable, run_text}
+use Rattle.tdl_walk.specs.Kept.{IsRunnable}
 use Rattle.tdl_image.specs.declared.bundle.Bundle.{Bundle}
 use Rattle.tdl_verify.specs.Texts.{bundle_text}
 use Rattle.tdl_meaning.specs.PlainBundle.{plain_bundle}
-use Rattle.tdl_meaning.proofs.PlainText.{plain_text}
 use Rattle.tdl_top.specs.declared.status.Status.{Status}
 use Rattle.tdl_top.specs.declared.status.Status.TheVariants.{Ok, Usage, LoadFailed, TooLong, WriteFailed, SaveFailed, NoMemory, BadForm}
 use Rattle.tdl_top.specs.declared.words.Call.{Call}
+use Rattle.tdl_top.specs.declared.words.Call.TheVariants.{Compile, Run, Exec}
 use Rattle.tdl_top.specs.Words.{Words, word_at, out_word, scenario_word}
-use Rattle.tdl_top.specs.Calls.{FilesCall, SinkCall, files_call, IsUnchanged, IsSilent}
-use Rattle.tdl_top.specs.Loads.{LoadSays, SaveSays}
-use Rattle.tdl_top.specs.Reports.{IsQuiet, IsToldOfSave}
-use Rattle.tdl_top.specs.Answers.{HasBundle, HasScenario, HasAsked, InputSays, SaysOf, SaysBy}
+use Rattle.tdl_top.specs.Calls.{FilesCall, SinkCall, files_call, sink_call, IsUnchanged, IsSilent}
+use Rattle.tdl_top.specs.Loads.{LoadSays, SaveSays, PrintSays}
+use Rattle.tdl_top.specs.Reports.{IsSaid, IsQuiet, IsToldOfSave}
+use Rattle.tdl_top.specs.Answers.{IsRead, HasBundle, HasNoBundle, HasScenario, HasAsked, InputSays, IsOfSource, Leaves, Prints, PrintsSome, IsPartDone, SaysOf, SaysBy, first_limit}
 use Rattle.tdl_top.specs.Due.{IsRefusal}
-use Rattle.tdl_top.specs.Headline.{HasSource, ReadsScenario}
 
 -- ---- counts
 
@@ -64,21 +62,52 @@ runnable f lawful = record {
   initial = lawful.initial_to;
 }
 
--- a source that was read gives its bundle
-pub has_bundle : (holds : Option Held) (words : Words) (call : Call) (f : Form) → HasSource holds words f → HasBundle holds words call (plain_bundle f)
-has_bundle holds words call f source = record {
-  bytes = source.bytes;
-  read = source.read;
-  gives = record { form = f; plain = source.plain; made = refl };
+-- the first file of a call that takes a source has the source's limit
+source_limit : (call : Call) → IsOfSource call → SOURCE_BYTES ≡ first_limit call
+source_limit (Compile out) of = refl
+source_limit (Run out scenario) of = refl
+source_limit (Exec scenario) of = absurd of
+
+-- a plain source gives its bundle
+pub has_source : (holds : Option Held) (words : Words) (call : Call) (f : Form) (bytes : List ℕ) → IsOfSource call → IsRead holds words 1 SOURCE_BYTES bytes →
+    IsPlainSource f bytes → HasBundle holds words call (plain_bundle f)
+has_source holds words (Compile out) f bytes of read plain = record { bytes = bytes; read = read; gives = record { form = f; plain = plain; made = refl } }
+has_source holds words (Run out scenario) f bytes of read plain = record { bytes = bytes; read = read; gives = record { form = f; plain = plain; made = refl } }
+has_source holds words (Exec scenario) f bytes of read plain = absurd of
+
+-- bytes that are no plain source give no bundle
+pub no_source : (holds : Option Held) (words : Words) (call : Call) (bytes : List ℕ) → IsOfSource call → IsRead holds words 1 SOURCE_BYTES bytes →
+    ((f : Form) → IsPlainSource f bytes → ⊥) → HasNoBundle holds words call
+no_source holds words (Compile out) bytes of read none = record { bytes = bytes; read = read; other = λ bundle gives. none gives.form gives.plain }
+no_source holds words (Run out scenario) bytes of read none = record { bytes = bytes; read = read; other = λ bundle gives. none gives.form gives.plain }
+no_source holds words (Exec scenario) bytes of read none = absurd of
+
+-- a load of the first file that is refused
+pub first_says : (files : FilesCall) (words : Words) (call : Call) (st : Status) → LoadSays files (word_at words 1) (first_limit call) 1 st → InputSays files words call st
+first_says files words call Ok says = absurd says
+first_says files words call Usage says = absurd says
+first_says files words call (LoadFailed w) says = record {
+  asked = inl (says.0, tt);
+  rose = says.1;
+  named = subst (λ (k : ℕ). HasNamedCause files.loads files.loads_behind (word_at words k)) (sym says.0) says.2;
 }
+first_says files words call (TooLong w) says = inl (says.0, says.1)
+first_says files words call WriteFailed says = absurd says
+first_says files words call (SaveFailed w) says = absurd says
+first_says files words call NoMemory says = tt
+first_says files words call (BadForm w) says = absurd says
 
--- a scenario that was read for the form is one of its bundle
-pub has_scenario : (holds : Option Held) (words : Words) (f : Form) (w : ℕ) (s : Scenario) → ReadsScenario holds words f w s → HasScenario holds words (plain_bundle f) w s
-has_scenario holds words f w s read = record { bytes = read.bytes; read = read.read; plain = read.plain }
+-- the same of a source
+pub source_says : (files : FilesCall) (words : Words) (call : Call) (st : Status) → IsOfSource call → LoadSays files (word_at words 1) SOURCE_BYTES 1 st → InputSays files words call st
+source_says files words call st of says =
+    first_says files words call st (subst (λ (l : ℕ). LoadSays files (word_at words 1) l 1 st) (source_limit call of) says)
 
--- what was read behind a call that left what the files hold
-pub reads_since : (holds holds1 : Option Held) (words : Words) (f : Form) (w : ℕ) (s : Scenario) → holds1 ≡ holds → ReadsScenario holds1 words f w s → ReadsScenario holds words f w s
-reads_since holds holds1 words f w s e read = subst (λ (h : Option Held). ReadsScenario h words f w s) e read
+-- what was read behind a call that left what the files hold, and before it
+pub scenario_since : (holds holds1 : Option Held) (words : Words) (b : Bundle) (w : ℕ) (s : Scenario) → holds1 ≡ holds → HasScenario holds1 words b w s → HasScenario holds words b w s
+scenario_since holds holds1 words b w s e read = subst (λ (h : Option Held). HasScenario h words b w s) e read
+
+pub bundle_still : (holds holds1 : Option Held) (words : Words) (call : Call) (b : Bundle) → holds1 ≡ holds → HasBundle holds words call b → HasBundle holds1 words call b
+bundle_still holds holds1 words call b e has = subst (λ (h : Option Held). HasBundle h words call b) (sym e) has
 
 -- what an input says behind a call it says behind an earlier one that left what the files hold
 same_holds : (holds b b' : Option Held) (f f1 f2 : ℕ) (l l1 l2 s s' t t' : Option Counts) (words : Words) (call : Call) (st : Status) → f ≤ f1 → NoCountFalls l l1 →
@@ -126,39 +155,24 @@ input_not_ok files words call (SaveFailed w) says = absurd says
 input_not_ok files words call NoMemory says = λ e. cc
 input_not_ok files words call (BadForm w) says = λ e. cc
 
--- it put no line yet
-pub input_told : (files : FilesCall) (words : Words) (call : Call) (names : Words) (err : SinkCall) (s : Status) → InputSays files words call s → IsQuiet err → IsToldOfSave names err s
-input_told files words call names err Ok says quiet = absurd says
-input_told files words call names err Usage says quiet = absurd says
-input_told files words call names err (LoadFailed w) says quiet = quiet
-input_told files words call names err (TooLong w) says quiet = quiet
-input_told files words call names err WriteFailed says quiet = absurd says
-input_told files words call names err (SaveFailed w) says quiet = absurd says
-input_told files words call names err NoMemory says quiet = quiet
-input_told files words call names err (BadForm w) says quiet = quiet
-
--- a load of the scenario that is refused, after the source was read
-pub says_scenario : (files : FilesCall) (words : Words) (call : Call) (f : Form) (at : ℕ) (st : Status) → HasSource files.holds words f → scenario_word call ≡ Some at →
+-- a load of the scenario that is refused, after the first file gave a bundle
+pub says_scenario : (files : FilesCall) (words : Words) (call : Call) (b : Bundle) (at : ℕ) (st : Status) → HasBundle files.holds words call b → scenario_word call ≡ Some at →
     LoadSays files (word_at words at) SCENARIO_BYTES at st → InputSays files words call st
-says_scenario files words call f at Ok source word says = absurd says
-says_scenario files words call f at Usage source word says = absurd says
-says_scenario files words call f at (LoadFailed w) source word says = record {
-  asked = inr (word ∙ ap Some (sym says.0), record { bundle = plain_bundle f; has = has_bundle files.holds words call f source; is = tt });
+says_scenario files words call b at Ok has word says = absurd says
+says_scenario files words call b at Usage has word says = absurd says
+says_scenario files words call b at (LoadFailed w) has word says = record {
+  asked = inr (word ∙ ap Some (sym says.0), record { bundle = b; has = has; is = tt });
   rose = says.1;
   named = subst (λ (k : ℕ). HasNamedCause files.loads files.loads_behind (word_at words k)) (sym says.0) says.2;
 }
-says_scenario files words call f at (TooLong w) source word says = inr (
+says_scenario files words call b at (TooLong w) has word says = inr (
   word ∙ ap Some (sym says.0),
-  record {
-    bundle = plain_bundle f;
-    has = has_bundle files.holds words call f source;
-    is = subst (λ (k : ℕ). IsLonger files.holds (word_at words k) SCENARIO_BYTES) (sym says.0) says.1;
-  },
+  record { bundle = b; has = has; is = subst (λ (k : ℕ). IsLonger files.holds (word_at words k) SCENARIO_BYTES) (sym says.0) says.1 },
 )
-says_scenario files words call f at WriteFailed source word says = absurd says
-says_scenario files words call f at (SaveFailed w) source word says = absurd says
-says_scenario files words call f at NoMemory source word says = tt
-says_scenario files words call f at (BadForm w) source word says = absurd says
+says_scenario files words call b at WriteFailed has word says = absurd says
+says_scenario files words call b at (SaveFailed w) has word says = absurd says
+says_scenario files words call b at NoMemory has word says = tt
+says_scenario files words call b at (BadForm w) has word says = absurd says
 
 -- ---- the save
 
@@ -213,29 +227,72 @@ others_since holds holds1 behind name e others = subst (λ (h : Option Held). Ke
 
 -- ---- what is printed
 
--- the logical rows' text is that of the bundle's run
-pub same_text : (holds : Option Held) (words : Words) (f : Form) (w : ℕ) (s : Scenario) → IsPlainForm f → ReadsScenario holds words f w s →
-    run_text f s.senses s.horizon.0 ≡ bundle_text (plain_bundle f) s
-same_text holds words f w s lawful read = sym (plain_text f (runnable f lawful) s read.plain.times)
+-- the whole text was printed
+pub says_done : (files : FilesCall) (words : Words) (out : SinkCall) (call : Call) (b : Bundle) (w : ℕ) (s : Scenario) → HasBundle files.holds words call b →
+    Leaves files words b (out_word call) → scenario_word call ≡ Some w → HasScenario files.holds words b w s →
+    Appends out.contents out.contents_behind (bundle_text b s) → SaysOf files words out call Ok
+says_done files words out call b w s has leaves word read printed = record {
+  bundle = b;
+  has = has;
+  leaves = leaves;
+  prints = subst (λ (o : Option ℕ). Prints files.holds words b out o) (sym word) (record { scenario = s; read = read; printed = printed });
+}
 
--- the logical rows' text under these entries is that of the bundle's run
-text_of_entries : (holds : Option Held) (words : Words) (f : Form) (w : ℕ) (s : Scenario) (senses : List Sense) → IsPlainForm f → ReadsScenario holds words f w s → senses ≡ s.senses →
-    run_text f senses s.horizon.0 ≡ bundle_text (plain_bundle f) s
-text_of_entries holds words f w s senses lawful read e = ap (λ (entries : List Sense). run_text f entries s.horizon.0) e ∙ same_text holds words f w s lawful read
+part_done : (files : FilesCall) (words : Words) (out : SinkCall) (call : Call) (b : Bundle) (w : ℕ) (s : Scenario) → HasBundle files.holds words call b →
+    Leaves files words b (out_word call) → scenario_word call ≡ Some w → HasScenario files.holds words b w s →
+    AppendsPart out.contents out.contents_behind (bundle_text b s) → IsPartDone files words call out
+part_done files words out call b w s has leaves word read printed = record {
+  bundle = b;
+  has = has;
+  leaves = leaves;
+  prints = subst (λ (o : Option ℕ). PrintsSome files.holds words b out o) (sym word) (record { scenario = s; read = read; printed = printed });
+}
 
--- where a first part of it was printed, one of the run's text was
-pub part_text : (holds : Option Held) (words : Words) (f : Form) (w : ℕ) (s : Scenario) (senses : List Sense) (before now : Option (List ℕ)) → IsPlainForm f →
-    ReadsScenario holds words f w s → senses ≡ s.senses →
-    AppendsPart before now (run_text f senses s.horizon.0) → AppendsPart before now (bundle_text (plain_bundle f) s)
-part_text holds words f w s senses before now lawful read e part =
-    subst (λ (text : List ℕ). AppendsPart before now text) (text_of_entries holds words f w s senses lawful read e) part
+-- a first part of it was, and the cause of that
+pub says_part : (files : FilesCall) (words : Words) (out : SinkCall) (call : Call) (b : Bundle) (w : ℕ) (s : Scenario) (st : Status) → HasBundle files.holds words call b →
+    Leaves files words b (out_word call) → scenario_word call ≡ Some w → HasScenario files.holds words b w s →
+    PrintSays out (bundle_text b s) st → SaysOf files words out call st
+says_part files words out call b w s Ok has leaves word read says = absurd says
+says_part files words out call b w s Usage has leaves word read says = absurd says
+says_part files words out call b w s (LoadFailed k) has leaves word read says = absurd says
+says_part files words out call b w s (TooLong k) has leaves word read says = absurd says
+says_part files words out call b w s WriteFailed has leaves word read says = (says.0, part_done files words out call b w s has leaves word read says.1)
+says_part files words out call b w s (SaveFailed k) has leaves word read says = absurd says
+says_part files words out call b w s NoMemory has leaves word read says = inr (part_done files words out call b w s has leaves word read says)
+says_part files words out call b w s (BadForm k) has leaves word read says = absurd says
 
--- and where all of it was, all of the run's text was
-pub whole_text : (holds : Option Held) (words : Words) (f : Form) (w : ℕ) (s : Scenario) (senses : List Sense) (before now : Option (List ℕ)) → IsPlainForm f →
-    ReadsScenario holds words f w s → senses ≡ s.senses →
-    Appends before now (run_text f senses s.horizon.0) → Appends before now (bundle_text (plain_bundle f) s)
-whole_text holds words f w s senses before now lawful read e whole =
-    subst (λ (text : List ℕ). Appends before now text) (text_of_entries holds words f w s senses lawful read e) whole
+-- a fault of the printing is neither Ok nor a failed save
+pub print_kind : (out : SinkCall) (text : List ℕ) (s : Status) → PrintSays out text s → (s ≢ Ok) × ((w : ℕ) → s ≢ SaveFailed w)
+print_kind out text Ok says = absurd says
+print_kind out text Usage says = absurd says
+print_kind out text (LoadFailed w) says = absurd says
+print_kind out text (TooLong w) says = absurd says
+print_kind out text WriteFailed says = ((λ e. cc), λ w e. cc)
+print_kind out text (SaveFailed w) says = absurd says
+print_kind out text NoMemory says = ((λ e. cc), λ w e. cc)
+print_kind out text (BadForm w) says = absurd says
+
+-- nor is a refused input a failed save
+pub input_no_save : (files : FilesCall) (words : Words) (call : Call) (s : Status) → InputSays files words call s → (w : ℕ) → s ≢ SaveFailed w
+input_no_save files words call Ok says w = absurd says
+input_no_save files words call Usage says w = absurd says
+input_no_save files words call (LoadFailed k) says w = λ e. cc
+input_no_save files words call (TooLong k) says w = λ e. cc
+input_no_save files words call WriteFailed says w = absurd says
+input_no_save files words call (SaveFailed k) says w = absurd says
+input_no_save files words call NoMemory says w = λ e. cc
+input_no_save files words call (BadForm k) says w = λ e. cc
+
+-- an answer that is no failed save has put no line yet
+pub told_quiet : (words : Words) (err : SinkCall) (s : Status) → ((w : ℕ) → s ≢ SaveFailed w) → IsQuiet err → IsToldOfSave words err s
+told_quiet words err Ok save quiet = quiet
+told_quiet words err Usage save quiet = quiet
+told_quiet words err (LoadFailed w) save quiet = quiet
+told_quiet words err (TooLong w) save quiet = quiet
+told_quiet words err WriteFailed save quiet = quiet
+told_quiet words err (SaveFailed w) save quiet = absurd (save w refl)
+told_quiet words err NoMemory save quiet = quiet
+told_quiet words err (BadForm w) save quiet = quiet
 
 -- ---- the parts of what an answer says
 
@@ -316,3 +373,38 @@ quiet_of files words out call (BadForm w) refusal says = (says.1, says.2)
 pub says_quiet : (files : FilesCall) (words : Words) (out : SinkCall) (o : Option Call) (s : Status) → IsRefusal s → SaysBy files words out o s → IsUnchanged files × IsSilent out
 says_quiet files words out None s refusal says = (says.1, says.2)
 says_quiet files words out (Some call) s refusal says = quiet_of files words out call s refusal says
+
+by_save : (files : FilesCall) (words : Words) (out : SinkCall) (o : Option Call) (w : ℕ) → SaysBy files words out o (SaveFailed w) → IsSilent out
+by_save files words out None w says = says.2
+by_save files words out (Some call) w says = says.1
+
+-- a failed save prints nothing
+pub save_silent : (files : FilesCall) (words : Words) (out : SinkCall) (o : Option Call) (s : Status) (w : ℕ) → s ≡ SaveFailed w → SaysBy files words out o s → IsSilent out
+save_silent files words out o s w e says = by_save files words out o w (subst (λ (t : Status). SaysBy files words out o t) e says)
+
+-- an answer whose line was put is not Ok
+pub reported_not_ok : (s r : Status) → s ≢ Ok → (r ≡ s) ⊎ (r ≡ NoMemory) → r ≢ Ok
+reported_not_ok s r ok kept e = elim kept [
+  | inl same ↦ ok (sym same ∙ e)
+  | inr less ↦ is_ok (sym less ∙ e)
+]
+  where
+    is_ok : NoMemory ≡ Ok → ⊥
+    is_ok h = cc h
+
+quiet_of_told : (words : Words) (err : SinkCall) (s : Status) → ((w : ℕ) → s ≢ SaveFailed w) → IsToldOfSave words err s → IsQuiet err
+quiet_of_told words err Ok save told = told
+quiet_of_told words err Usage save told = told
+quiet_of_told words err (LoadFailed w) save told = told
+quiet_of_told words err (TooLong w) save told = told
+quiet_of_told words err WriteFailed save told = told
+quiet_of_told words err (SaveFailed w) save told = absurd (save w refl)
+quiet_of_told words err NoMemory save told = told
+quiet_of_told words err (BadForm w) save told = told
+
+-- a line that is put behind a call that put none
+pub quiet_said : (words : Words) (s : Status) (a b d : Option (List ℕ)) (f h k : ℕ) (line : List ℕ) → ((w : ℕ) → s ≢ SaveFailed w) →
+    IsToldOfSave words (sink_call a b f h) s → IsSaid (sink_call b d h k) line → IsSaid (sink_call a d f k) line
+quiet_said words s a b d f h k line save told said =
+    let quiet = quiet_of_told words (sink_call a b f h) s save told in
+    subst (λ (m : ℕ). IsSaid (sink_call a d m k) line) quiet.count (subst (λ (c : Option (List ℕ)). IsSaid (sink_call c d h k) line) quiet.contents said)

@@ -10,10 +10,12 @@ use Rattle.tdl_trace.specs.Lines.{module_name, sensor_name}
 use Rattle.tdl_image.specs.declared.bundle.Bundle.{Bundle}
 use Rattle.tdl_image.specs.Spelling.{bundle_bytes}
 use Rattle.tdl_verify.specs.Texts.{bundle_names, bundle_text}
-use Rattle.tdl_meaning.specs.PlainBundle.{plain_bundle}
+use Rattle.tdl_meaning.specs.PlainBundle.{plain_bundle, IsPlainBundle}
 use Rattle.tdl_top.specs.declared.status.Status.{Status}
 use Rattle.tdl_top.specs.declared.status.Status.TheVariants.{Ok, Usage, LoadFailed, TooLong, WriteFailed, SaveFailed, NoMemory, BadForm}
 use Rattle.tdl_top.specs.declared.words.Call.{Call}
+use Rattle.tdl_top.specs.declared.words.Call.TheVariants.{Compile, Run, Exec}
+use Rattle.tdl_top.specs.declared.inputs.TheConstants.{BUNDLE_BYTES}
 use Rattle.tdl_top.specs.Words.{Words, word_at, call_of, out_word, scenario_word}
 use Rattle.tdl_top.specs.Calls.{FilesCall, SinkCall, IsUnchanged, IsSilent}
 
@@ -24,9 +26,17 @@ pub record IsRead (holds : Option Held) (words : Words) (w limit : ℕ) (bytes :
   pub reads : Reads holds (word_at words w) bytes
   pub within : length bytes ≤ limit
 
--- the greatest length of a call's first file
+-- the greatest length of a call's first file, which is a source, or a bundle for `exec`
 abbrev pub first_limit : Call → ℕ
-first_limit call = SOURCE_BYTES
+first_limit (Compile out) = SOURCE_BYTES
+first_limit (Run out scenario) = SOURCE_BYTES
+first_limit (Exec scenario) = BUNDLE_BYTES
+
+-- a call's first file is a source
+abbrev pub IsOfSource : Call → Type 0
+IsOfSource (Compile out) = ⊤
+IsOfSource (Run out scenario) = ⊤
+IsOfSource (Exec scenario) = ⊥
 
 -- the bytes are a plain source, and this is its bundle
 pub record IsSourceOf (bundle : Bundle) (bytes : List ℕ) : Type 0 where
@@ -34,9 +44,16 @@ pub record IsSourceOf (bundle : Bundle) (bytes : List ℕ) : Type 0 where
   pub plain : IsPlainSource form bytes
   pub made : bundle ≡ plain_bundle form
 
--- the bytes of a call's first file give this bundle
+-- the bytes are the spelling of this bundle, which is that of a plain program
+pub record IsSpellingOf (bundle : Bundle) (bytes : List ℕ) : Type 0 where
+  pub plain : IsPlainBundle bundle
+  pub spelled : bytes ≡ bundle_bytes bundle
+
+-- the bytes of a call's first file give this bundle: a source its bundle, and for `exec` a bundle itself
 abbrev pub Gives : Call → Bundle → List ℕ → Type 0
-Gives call bundle bytes = IsSourceOf bundle bytes
+Gives (Compile out) bundle bytes = IsSourceOf bundle bytes
+Gives (Run out scenario) bundle bytes = IsSourceOf bundle bytes
+Gives (Exec scenario) bundle bytes = IsSpellingOf bundle bytes
 
 -- the bytes are a plain scenario, of the names of the bundle's first module and sensor
 abbrev pub IsScenarioOf : Bundle → List ℕ → Scenario → Type 0

@@ -1,9 +1,9 @@
--- What one load and one save of a call say.
+-- What one load, one save and the printing of a call say.
 use Rattle.std.specs.Prelude.{◌≡◌, ℕ, List, ⊤}
-use Rattle.tdl_io.specs.Outside.{Rose, HasNamedCause, IsLonger}
+use Rattle.tdl_io.specs.Outside.{Rose, HasNamedCause, IsLonger, AppendsPart}
 use Rattle.tdl_top.specs.declared.status.Status.{Status}
-use Rattle.tdl_top.specs.declared.status.Status.TheVariants.{LoadFailed, TooLong, SaveFailed, NoMemory}
-use Rattle.tdl_top.specs.Calls.{FilesCall, IsUnchanged}
+use Rattle.tdl_top.specs.declared.status.Status.TheVariants.{LoadFailed, TooLong, WriteFailed, SaveFailed, NoMemory}
+use Rattle.tdl_top.specs.Calls.{FilesCall, SinkCall, IsUnchanged}
 
 -- what a refusal of a load of a name says, at this limit and word
 abbrev pub LoadSays : FilesCall → List ℕ → ℕ → ℕ → Status → Type 0
@@ -19,3 +19,9 @@ SaveSays files name at (SaveFailed w) =
     (w ≡ at) × Rose files.faults files.faults_behind × HasNamedCause files.saves files.saves_behind name
 SaveSays files name at NoMemory = IsUnchanged files
 SaveSays files name at status = ⊥
+
+-- what a fault of the printing of a text says
+abbrev pub PrintSays : SinkCall → List ℕ → Status → Type 0
+PrintSays out text WriteFailed = Rose out.faults out.faults_behind × AppendsPart out.contents out.contents_behind text
+PrintSays out text NoMemory = AppendsPart out.contents out.contents_behind text
+PrintSays out text status = ⊥

@@ -3,7 +3,7 @@ use Rattle.std.specs.Prelude.{String, ℕ, Bool, false, not, ◌&&◌, ◌==◌,
 use Rattle.std.specs.String.{string_bytes}
 use Rattle.std.specs.declared.alloc.Global.{Global}
 use Rattle.tdl_top.specs.declared.words.Call.{Call}
-use Rattle.tdl_top.specs.declared.words.Call.TheVariants.{Compile, Run}
+use Rattle.tdl_top.specs.declared.words.Call.TheVariants.{Compile, Run, Exec}
 
 -- the words of a call, each as its bytes
 abbrev pub Words : Type 0
@@ -33,21 +33,24 @@ has_two command first second (c ∷ file ∷ o ∷ value ∷ p ∷ other ∷ [])
     bytes_eq c command && (is_file file && (bytes_eq o first && (is_file value && (bytes_eq p second && is_file other))))
 has_two command first second words = false
 
--- what the words ask for; none where they are not those of a command, which are
--- `compile FILE --out FILE` and `run FILE --out FILE --scen FILE`, its options in any order
+-- what the words ask for; none where they are not those of a command, which are `compile FILE --out FILE`,
+-- `run FILE --out FILE --scen FILE`, its options in any order, and `exec FILE --scen FILE`
 abbrev pub call_of : Words → Option Call
 call_of words =
     if has_one (codes "compile") (codes "--out") words then Some (Compile 3)
     else if has_two (codes "run") (codes "--out") (codes "--scen") words then Some (Run 3 5)
     else if has_two (codes "run") (codes "--scen") (codes "--out") words then Some (Run 5 3)
+    else if has_one (codes "exec") (codes "--scen") words then Some (Exec 3)
     else None
 
 -- the word of the file that a call saves
 abbrev pub out_word : Call → Option ℕ
 out_word (Compile out) = Some out
 out_word (Run out scenario) = Some out
+out_word (Exec scenario) = None
 
 -- the word of the scenario that a call reads
 abbrev pub scenario_word : Call → Option ℕ
 scenario_word (Compile out) = None
 scenario_word (Run out scenario) = Some scenario
+scenario_word (Exec scenario) = Some scenario

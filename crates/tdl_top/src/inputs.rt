@@ -1,21 +1,27 @@
-ghost use Rattle.std.specs.Prelude.{◌≡◌, ◌≤◌, length, IfOk, IfErr};
-ghost use Rattle.tdl_base.specs.declared.limits.TheConstants as limit;
+ghost use Rattle.std.specs.Prelude.{◌≡◌, ◌≤◌, ℕ, Some, length, IfOk, IfErr};
 ghost use Rattle.tdl_io.specs.Outside.{Reads, NoCountFalls, NoCountChanges};
-ghost use Rattle.tdl_meaning.specs.PlainBundle.{plain_bundle};
+ghost use Rattle.tdl_trace.specs.Lines.{module_name, sensor_name};
+ghost use Rattle.tdl_verify.specs.Texts.{bundle_names};
+ghost use Rattle.tdl_meaning.specs.PlainBundle.{IsPlainBundle};
 ghost use Rattle.tdl_top.specs.declared.words.Call.{Call};
-ghost use Rattle.tdl_top.specs.Words.{texts, word_at, out_word, scenario_word};
+ghost use Rattle.tdl_top.specs.Words.{texts, word_at, scenario_word};
 ghost use Rattle.tdl_top.specs.Calls.{files_call};
-ghost use Rattle.tdl_top.specs.Answers.{InputSays, HasBundle};
-ghost use Rattle.tdl_top.specs.Headline.{HasSource, ReadsScenario};
+ghost use Rattle.tdl_top.specs.Answers.{InputSays, HasBundle, HasScenario, IsOfSource};
 ghost use Rattle.tdl_top.specs.Loads.{LoadSays};
 
 use crate::Status;
 use crate::words::{FILE_WORD, word};
 use std::alloc::Global;
 use tdl_base::limits::{SCENARIO_BYTES, SOURCE_BYTES};
+use tdl_image::Bundle;
 use tdl_io::{FileAnswer, Files};
-use tdl_plain::{Form, SourceError, read_plain_source};
+use tdl_make::plain_bundle;
+use tdl_plain::{SourceError, read_plain_source};
+use tdl_read::{PlainError, read_plain};
 use tdl_scen::{PlainScenarioError, Scenario, read_plain_scenario};
+
+/// The greatest length of a bundle, in bytes.
+pub const BUNDLE_BYTES: usize = 67_108_864;
 
 // The file that word `at` names.
 fn load<F: Files>(
@@ -42,10 +48,15 @@ fn load<F: Files>(
     }
 }
 
-/// The form of the source that the words name.
-pub fn read_source<F: Files>(alloc: Global, files: &mut F, words: &[String]) -> Result<Form, Status>
-    ensures ok { IfOk result (HasSource (F.holds files.old) (texts words.now)) }
-    ensures refused { (call : Call) → IfErr result (InputSays (files_call (F.holds files.old) (F.holds files.new) (F.faults files.old) (F.faults files.new) (F.failed_loads files.old) (F.failed_loads files.new) (F.failed_saves files.old) (F.failed_saves files.new)) (texts words.now) call) }
+/// The bundle of the source that the words name.
+pub fn read_source<F: Files>(
+    alloc: Global,
+    files: &mut F,
+    words: &[String],
+) -> Result<Bundle, Status>
+    ensures ok { IfOk result (λ bundle. (call : Call) → IsOfSource call → HasBundle (F.holds files.old) (texts words.now) call bundle) }
+    ensures plain { IfOk result (λ bundle. IsPlainBundle bundle) }
+    ensures refused { (call : Call) → IsOfSource call → IfErr result (InputSays (files_call (F.holds files.old) (F.holds files.new) (F.faults files.old) (F.faults files.new) (F.failed_loads files.old) (F.failed_loads files.new) (F.failed_saves files.old) (F.failed_saves files.new)) (texts words.now) call) }
     ensures held { F.holds files.new ≡ F.holds files.old }
     ensures later { F.faults files.old ≤ F.faults files.new }
     ensures counts { NoCountFalls (F.failed_loads files.old) (F.failed_loads files.new) }
@@ -53,30 +64,71 @@ pub fn read_source<F: Files>(alloc: Global, files: &mut F, words: &[String]) -> 
 {
     let bytes = load(alloc, files, words, FILE_WORD, SOURCE_BYTES)?;
     match read_plain_source(alloc, &bytes) {
-        Ok(form) => Ok(form),
+        Ok(form) => Ok(plain_bundle(alloc, &form)?),
         Err(SourceError::NotPlain) => Err(Status::BadForm { word: FILE_WORD }),
         Err(SourceError::NoMemory) => Err(Status::NoMemory),
     }
 }
 
-/// The scenario that word `at` names, for the source's form.
+/// The bundle that the words name.
+pub fn read_bundle<F: Files>(
+    alloc: Global,
+    files: &mut F,
+    words: &[String],
+) -> Result<Bundle, Status>
+    ensures ok { IfOk result (λ bundle. (w : ℕ) → HasBundle (F.holds files.old) (texts words.now) (Call.Exec w) bundle) }
+    ensures plain { IfOk result (λ bundle. IsPlainBundle bundle) }
+    ensures refused { (w : ℕ) → IfErr result (InputSays (files_call (F.holds files.old) (F.holds files.new) (F.faults files.old) (F.faults files.new) (F.failed_loads files.old) (F.failed_loads files.new) (F.failed_saves files.old) (F.failed_saves files.new)) (texts words.now) (Call.Exec w)) }
+    ensures held { F.holds files.new ≡ F.holds files.old }
+    ensures later { F.faults files.old ≤ F.faults files.new }
+    ensures counts { NoCountFalls (F.failed_loads files.old) (F.failed_loads files.new) }
+    ensures saves { NoCountChanges (F.failed_saves files.old) (F.failed_saves files.new) }
+{
+    let bytes = load(alloc, files, words, FILE_WORD, BUNDLE_BYTES)?;
+    match read_plain(alloc, &bytes) {
+        Ok(bundle) => Ok(bundle),
+        Err(PlainError::BadForm) => Err(Status::BadForm { word: FILE_WORD }),
+        Err(PlainError::NoMemory) => Err(Status::NoMemory),
+    }
+}
+
+// The names of the module and of the sensor of a plain bundle.
+fn sensor_of(bundle: &Bundle) -> (&str, &str)
+    requires { IsPlainBundle bundle.now }
+    ensures owner { result.0.now ≡ module_name (bundle_names bundle.now) 0 }
+    ensures sensor { result.1.now ≡ sensor_name (bundle_names bundle.now) 0 0 }
+{
+    let Some(image) = bundle.images.get(0) else {
+        unreachable!()
+    };
+    let Some(host) = image.hosted.get(0) else {
+        unreachable!()
+    };
+    let Some(sensor) = host.sensors.get(0) else {
+        unreachable!()
+    };
+    (host.name.as_str(), sensor.name.as_str())
+}
+
+/// The scenario that word `at` names, for the bundle's sensor.
 pub fn read_scenario<F: Files>(
     alloc: Global,
     files: &mut F,
     words: &[String],
     at: usize,
-    form: &Form,
+    bundle: &Bundle,
 ) -> Result<Scenario, Status>
-    requires { HasSource (F.holds files.old) (texts words.now) form.now }
-    ensures ok { IfOk result (ReadsScenario (F.holds files.old) (texts words.now) form.now at) }
-    ensures refused { (call : Call) → scenario_word call ≡ Some at → IfErr result (InputSays (files_call (F.holds files.old) (F.holds files.new) (F.faults files.old) (F.faults files.new) (F.failed_loads files.old) (F.failed_loads files.new) (F.failed_saves files.old) (F.failed_saves files.new)) (texts words.now) call) }
+    requires { IsPlainBundle bundle.now }
+    ensures ok { IfOk result (HasScenario (F.holds files.old) (texts words.now) bundle.now at) }
+    ensures refused { (call : Call) → scenario_word call ≡ Some at → HasBundle (F.holds files.old) (texts words.now) call bundle.now → IfErr result (InputSays (files_call (F.holds files.old) (F.holds files.new) (F.faults files.old) (F.faults files.new) (F.failed_loads files.old) (F.failed_loads files.new) (F.failed_saves files.old) (F.failed_saves files.new)) (texts words.now) call) }
     ensures held { F.holds files.new ≡ F.holds files.old }
     ensures later { F.faults files.old ≤ F.faults files.new }
     ensures counts { NoCountFalls (F.failed_loads files.old) (F.failed_loads files.new) }
     ensures saves { NoCountChanges (F.failed_saves files.old) (F.failed_saves files.new) }
 {
     let bytes = load(alloc, files, words, at, SCENARIO_BYTES)?;
-    match read_plain_scenario(alloc, &bytes, form.module.as_str(), form.sensor.as_str()) {
+    let (owner, sensor) = sensor_of(bundle);
+    match read_plain_scenario(alloc, &bytes, owner, sensor) {
         Ok(scenario) => Ok(scenario),
         Err(PlainScenarioError::NotPlain) => Err(Status::BadForm { word: at }),
         Err(PlainScenarioError::NoMemory) => Err(Status::NoMemory),

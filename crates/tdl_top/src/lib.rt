@@ -2,6 +2,7 @@
 #![tactic(auto)]
 
 mod inputs;
+mod print;
 mod report;
 mod save;
 mod status;
@@ -9,6 +10,7 @@ mod top;
 mod words;
 
 pub use status::Status;
+pub use tdl_read::{PlainError, read_plain};
 pub use top::tdl;
 
 #[cfg(test)]

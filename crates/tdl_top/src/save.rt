@@ -1,8 +1,7 @@
 ghost use Rattle.std.specs.Prelude.{◌≡◌, ◌≤◌, OnOk, IfErr};
 ghost use Rattle.tdl_io.specs.Outside.{Saves, KeepsOthers};
 ghost use Rattle.tdl_image.specs.Spelling.{bundle_bytes};
-ghost use Rattle.tdl_meaning.specs.PlainBundle as plain;
-ghost use Rattle.tdl_plain.specs.PlainSource.{IsPlainForm};
+ghost use Rattle.tdl_image.specs.Spellable.{IsSpellable};
 ghost use Rattle.tdl_top.specs.Words.{texts, word_at};
 ghost use Rattle.tdl_top.specs.Calls.{files_call, sink_call};
 ghost use Rattle.tdl_top.specs.Loads.{SaveSays};
@@ -12,10 +11,8 @@ use crate::Status;
 use crate::report::{line_with, say};
 use crate::words::word;
 use std::alloc::Global;
-use tdl_image::write_bundle;
+use tdl_image::{Bundle, write_bundle};
 use tdl_io::{Files, SaveAnswer, Sink};
-use tdl_make::plain_bundle;
-use tdl_plain::Form;
 
 // Saves the file that word `at` names. The line of a failed save takes its memory before the save,
 // and is put here.
@@ -44,23 +41,22 @@ fn save<F: Files, E: Sink>(
     }
 }
 
-/// Saves the bundle of a plain program as the file that word `at` names.
-pub fn save_program<F: Files, E: Sink>(
+/// Saves the spelling of a bundle as the file that word `at` names.
+pub fn save_bundle<F: Files, E: Sink>(
     alloc: Global,
     files: &mut F,
     words: &[String],
     at: usize,
-    form: &Form,
+    bundle: &Bundle,
     err: &mut E,
 ) -> Result<(), Status>
-    requires { IsPlainForm form.now }
-    ensures ok { OnOk result (Saves (F.holds files.new) (word_at (texts words.now) at) (bundle_bytes (plain.plain_bundle form.now))) }
+    requires { IsSpellable bundle.now }
+    ensures ok { OnOk result (Saves (F.holds files.new) (word_at (texts words.now) at) (bundle_bytes bundle.now)) }
     ensures others { KeepsOthers (F.holds files.old) (F.holds files.new) (word_at (texts words.now) at) }
     ensures refused { IfErr result (SaveSays (files_call (F.holds files.old) (F.holds files.new) (F.faults files.old) (F.faults files.new) (F.failed_loads files.old) (F.failed_loads files.new) (F.failed_saves files.old) (F.failed_saves files.new)) (word_at (texts words.now) at) at) }
     ensures told { IfErr result (IsToldOfSave (texts words.now) (sink_call (E.contents err.old) (E.contents err.new) (E.faults err.old) (E.faults err.new))) }
     ensures quiet { OnOk result (IsQuiet (sink_call (E.contents err.old) (E.contents err.new) (E.faults err.old) (E.faults err.new))) }
 {
-    let bundle = plain_bundle(alloc, form)?;
-    let bytes = write_bundle(alloc, &bundle)?;
+    let bytes = write_bundle(alloc, bundle)?;
     save(alloc, files, words, at, &bytes, err)
 }

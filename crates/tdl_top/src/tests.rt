@@ -3,6 +3,9 @@ use std::alloc::{AllocError, Global};
 use std::process::Abort;
 use std::test::Fail;
 use tdl_io::{MemFiles, MemSink};
+use tdl_plain::read_plain_source;
+use tdl_scen::read_plain_scenario;
+use tdl_walk::run;
 
 const SOURCE: &str =
     "module P {\n  sensor int s;\n  public task inc [wcet=200us] {\n    input int a;\n    output int o := 10;\n    o := o + a;\n  }\n  start mode main [period=5ms] {\n    task [freq=1] inc(s);\n  }\n}\n";
@@ -13,7 +16,9 @@ const RUN: [&str; 6] = ["run", "P.tdl", "--out", "b", "--scen", "s"];
 
 const COMPILE: [&str; 4] = ["compile", "P.tdl", "--out", "b"];
 
-/// What `b` holds before each call.
+const EXEC: [&str; 4] = ["exec", "b", "--scen", "s"];
+
+/// What `b` holds before a call that saves it.
 const OLD: &[u8] = b"old";
 
 // The spelling of the bundle of P.
@@ -44,6 +49,8 @@ struct Case<'a> {
     source: Option<&'a str>,
     /// The scenario, or None where there is no such file.
     scenario: Option<&'a str>,
+    /// What `b` holds before the call.
+    before: &'a [u8],
     /// The numbers of the calls on the files that fail, from 1.
     fail_files: &'a [u64],
     fail_puts: &'a [u64],
@@ -61,6 +68,7 @@ fn good<'a>() -> Case<'a> {
         words: &RUN,
         source: Some(SOURCE),
         scenario: Some(STEP),
+        before: OLD,
         fail_files: &[],
         fail_puts: &[],
         fail_errors: &[],
@@ -77,6 +85,28 @@ fn compiled<'a>() -> Case<'a> {
         words: &COMPILE,
         out: "",
         ..good()
+    }
+}
+
+// A call of `exec` that goes well.
+fn executed<'a>() -> Case<'a> {
+    Case {
+        words: &EXEC,
+        source: None,
+        before: &BUNDLE,
+        ..good()
+    }
+}
+
+// A call of `exec` that is refused, of a bundle that stays as it is.
+fn not_executed<'a>(before: &'a [u8], status: Status, err: &'a str) -> Case<'a> {
+    Case {
+        before,
+        status,
+        out: "",
+        err,
+        saved: before,
+        ..executed()
     }
 }
 
@@ -114,7 +144,7 @@ fn files_of(alloc: Global, case: &Case) -> Result<MemFiles, AllocError> {
     if let Some(scenario) = case.scenario {
         held.push(file(alloc, "s", scenario.as_bytes())?)?;
     }
-    held.push(file(alloc, "b", OLD)?)?;
+    held.push(file(alloc, "b", case.before)?)?;
     let fail = Vec::from_slice(alloc, case.fail_files)?;
     Ok(MemFiles::new(alloc, held, fail))
 }
@@ -202,6 +232,103 @@ fn a_run_wraps_its_output(rt: HostRuntime) -> Result<(), Fail> {
 }
 
 #[test]
+fn a_bundle_is_run(rt: HostRuntime) -> Result<(), Fail> {
+    let cases = [
+        executed(),
+        Case {
+            scenario: Some("horizon 5000\nsense P.s 0 -1\n"),
+            out: "0 n1 mode P main\n5000 n1 port P.inc.o 9\n",
+            ..executed()
+        },
+        Case {
+            scenario: Some("horizon 10000\nsense Q.s 0 1\n"),
+            ..not_executed(&BUNDLE, Status::BadForm { word: 3 }, "tdl: form s\n")
+        },
+        Case {
+            scenario: None,
+            ..not_executed(
+                &BUNDLE,
+                Status::LoadFailed { word: 3 },
+                "tdl: cannot load s\n",
+            )
+        },
+        Case {
+            fail_files: &[1],
+            ..not_executed(
+                &BUNDLE,
+                Status::LoadFailed { word: 1 },
+                "tdl: cannot load b\n",
+            )
+        },
+        Case {
+            fail_puts: &[2],
+            status: Status::WriteFailed,
+            out: "0 n1 mode P main\n",
+            err: "tdl: cannot write\n",
+            ..executed()
+        },
+    ];
+    for case in cases.iter() {
+        try_case(&rt, rt.alloc(), case)?;
+    }
+    Ok(())
+}
+
+// The bundle of P with another byte at a place.
+fn changed(alloc: Global, at: usize, byte: u8) -> Result<Vec<u8>, AllocError> {
+    let mut bytes = Vec::from_slice(alloc, &BUNDLE)?;
+    if at < bytes.len() {
+        bytes[at] = byte;
+    }
+    Ok(bytes)
+}
+
+#[test]
+fn other_bytes_are_no_bundle(rt: HostRuntime) -> Result<(), Fail> {
+    let letter = changed(rt.alloc(), 0, 0)?;
+    let count = changed(rt.alloc(), 14, 10)?;
+    let mut longer = Vec::from_slice(rt.alloc(), &BUNDLE)?;
+    longer.push(0)?;
+    let shorter = &BUNDLE[..216];
+    let all = [
+        letter.as_slice(),
+        count.as_slice(),
+        longer.as_slice(),
+        shorter,
+    ];
+    for bytes in all {
+        let form = Status::BadForm { word: 1 };
+        try_case(&rt, rt.alloc(), &not_executed(bytes, form, "tdl: form b\n"))?;
+    }
+    Ok(())
+}
+
+// What the logical execution of the source prints.
+fn walked(alloc: Global) -> Result<MemSink, Fail> {
+    let Ok(form) = read_plain_source(alloc, SOURCE.as_bytes()) else {
+        return Err(Fail::from(AllocError));
+    };
+    let Ok(scenario) = read_plain_scenario(alloc, STEP.as_bytes(), "P", "s") else {
+        return Err(Fail::from(AllocError));
+    };
+    let mut out = MemSink::new(alloc, 8192, Vec::new(alloc))?;
+    let _ = run(
+        alloc,
+        &form,
+        scenario.senses.as_slice(),
+        scenario.horizon.0,
+        &mut out,
+    );
+    Ok(out)
+}
+
+#[test]
+fn the_bundle_prints_what_the_program_does(rt: HostRuntime) -> Result<(), Fail> {
+    assert_eq!(rt; walked(rt.alloc())?.bytes(), THREE_LINES.as_bytes());
+    Ok(())
+}
+
+#[test]
 fn two_words_may_name_one_file(rt: HostRuntime) -> Result<(), Fail> {
     let words = strings(rt.alloc(), &["run", "P.tdl", "--out", "s", "--scen", "s"])?;
     let mut files = files_of(rt.alloc(), &good())?;
@@ -217,7 +344,7 @@ fn two_words_may_name_one_file(rt: HostRuntime) -> Result<(), Fail> {
 
 #[test]
 fn other_words_are_usage(rt: HostRuntime) -> Result<(), Fail> {
-    let lists: [&[&str]; 27] = [
+    let lists: [&[&str]; 31] = [
         &[],
         &["run"],
         &["compile"],
@@ -226,6 +353,10 @@ fn other_words_are_usage(rt: HostRuntime) -> Result<(), Fail> {
         &["logic", "P.tdl", "--scen", "s"],
         &["list", "b"],
         &["gen", "7", "--out", "b"],
+        &["exec", "b", "--out", "b", "--scen", "s"],
+        &["exec", "b"],
+        &["exec", "--scen", "s"],
+        &["exec", "b", "--scen", "s", "--log"],
         &["--help"],
         // No file, two files, a file behind an option.
         &["run", "--out", "b", "--scen", "s"],

@@ -8,16 +8,16 @@ ghost use Rattle.tdl_top.specs.Calls.{SinkCall, files_call, sink_call, IsUnchang
 ghost use Rattle.tdl_top.specs.Reports.{IsSaid, IsQuiet, IsToldOfSave};
 ghost use Rattle.tdl_top.specs.Answers.{Says, SaysOf, IsLoadFault, IsTooLong, IsOfNoForm, IsSaveFault, IsPartDone};
 ghost use Rattle.tdl_top.specs.Due.{IsDue, IsFault, IsRefusal};
-ghost use Rattle.tdl_top.specs.Headline.{Compiles, Runs};
+ghost use Rattle.tdl_top.specs.Headline.{Compiles, Runs, Executes};
 
 use crate::Status;
-use crate::inputs::{read_scenario, read_source};
+use crate::inputs::{read_bundle, read_scenario, read_source};
+use crate::print::print_run;
 use crate::report::report;
-use crate::save::save_program;
+use crate::save::save_bundle;
 use crate::words::{Call, read_call};
 use std::alloc::Global;
 use tdl_io::{Files, Sink};
-use tdl_walk::{RunFault, run};
 
 // Saves the source's bundle as the file that word `place` names.
 fn compile_source<F: Files, E: Sink>(
@@ -33,8 +33,8 @@ fn compile_source<F: Files, E: Sink>(
     ensures told { IfErr result (IsToldOfSave (texts words.now) (sink_call (E.contents err.old) (E.contents err.new) (E.faults err.old) (E.faults err.new))) }
     ensures quiet { OnOk result (IsQuiet (sink_call (E.contents err.old) (E.contents err.new) (E.faults err.old) (E.faults err.new))) }
 {
-    let form = read_source(alloc, files, words)?;
-    save_program(alloc, files, words, place, &form, err)
+    let bundle = read_source(alloc, files, words)?;
+    save_bundle(alloc, files, words, place, &bundle, err)
 }
 
 // Saves the source's bundle as the file that word `place` names, and prints its run under the
@@ -54,15 +54,28 @@ fn run_source<F: Files, O: Sink, E: Sink>(
     ensures told { IfErr result (IsToldOfSave (texts words.now) (sink_call (E.contents err.old) (E.contents err.new) (E.faults err.old) (E.faults err.new))) }
     ensures quiet { OnOk result (IsQuiet (sink_call (E.contents err.old) (E.contents err.new) (E.faults err.old) (E.faults err.new))) }
 {
-    let form = read_source(alloc, files, words)?;
-    let scenario = read_scenario(alloc, files, words, at, &form)?;
-    save_program(alloc, files, words, place, &form, err)?;
-    let senses = scenario.senses.as_slice();
-    match run(alloc, &form, senses, scenario.horizon.0, out) {
-        Ok(()) => Ok(()),
-        Err(RunFault::WriteFailed) => Err(Status::WriteFailed),
-        Err(RunFault::NoMemory) => Err(Status::NoMemory),
-    }
+    let bundle = read_source(alloc, files, words)?;
+    let scenario = read_scenario(alloc, files, words, at, &bundle)?;
+    save_bundle(alloc, files, words, place, &bundle, err)?;
+    print_run(alloc, &bundle, &scenario, out)
+}
+
+// Prints the run of the bundle under the scenario that word `at` names.
+fn exec_bundle<F: Files, O: Sink>(
+    alloc: Global,
+    words: &[String],
+    at: usize,
+    files: &mut F,
+    out: &mut O,
+) -> Result<(), Status>
+    ensures ok { OnOk result (SaysOf (files_call (F.holds files.old) (F.holds files.new) (F.faults files.old) (F.faults files.new) (F.failed_loads files.old) (F.failed_loads files.new) (F.failed_saves files.old) (F.failed_saves files.new)) (texts words.now) (sink_call (O.contents out.old) (O.contents out.new) (O.faults out.old) (O.faults out.new)) (Call.Exec at) Status.Ok) }
+    ensures refused { IfErr result (SaysOf (files_call (F.holds files.old) (F.holds files.new) (F.faults files.old) (F.faults files.new) (F.failed_loads files.old) (F.failed_loads files.new) (F.failed_saves files.old) (F.failed_saves files.new)) (texts words.now) (sink_call (O.contents out.old) (O.contents out.new) (O.faults out.old) (O.faults out.new)) (Call.Exec at)) }
+    ensures not_ok { IfErr result (λ status. status ≢ Status.Ok) }
+    ensures not_save { (w : ℕ) → IfErr result (λ status. status ≢ Status.SaveFailed w) }
+{
+    let bundle = read_bundle(alloc, files, words)?;
+    let scenario = read_scenario(alloc, files, words, at, &bundle)?;
+    print_run(alloc, &bundle, &scenario, out)
 }
 
 fn perform<F: Files, O: Sink, E: Sink>(
@@ -87,6 +100,7 @@ fn perform<F: Files, O: Sink, E: Sink>(
                 scenario,
             },
         ) => run_source(alloc, words, place, scenario, files, out, err),
+        Some(Call::Exec { scenario }) => exec_bundle(alloc, words, scenario, files, out),
     }
 }
 
@@ -111,10 +125,11 @@ fn answer<F: Files, O: Sink, E: Sink>(
 /// Does all that the program does: takes the words of the command line, the files, and the sinks for
 /// the output and for the line of an error, and says how it ended.
 ///
-/// The words are `compile FILE --out FILE`, which saves the bundle of a source, or
+/// The words are `compile FILE --out FILE`, which saves the bundle of a source,
 /// `run FILE --out FILE --scen FILE`, its options in any order, which also prints the bundle's run
-/// under a scenario. The source is plain and has at most 262,144 bytes; the scenario is plain and has
-/// at most 4,194,304. The rows go up to the scenario's horizon in microseconds and with it, each line
+/// under a scenario, or `exec FILE --scen FILE`, which prints the run of a bundle. The source is plain
+/// and has at most 262,144 bytes; the scenario is plain and has at most 4,194,304; the bundle is that
+/// of a plain program and has at most 67,108,864. The rows go up to the scenario's horizon in microseconds and with it, each line
 /// put on `out` in one piece. Every other answer than Ok puts its line on `err`. NoMemory may come in
 /// place of any answer but Usage and SaveFailed.
 pub fn tdl<F: Files, O: Sink, E: Sink>(
@@ -125,9 +140,11 @@ pub fn tdl<F: Files, O: Sink, E: Sink>(
     err: &mut E,
 ) -> Status
     // Ok: the file that was saved is the spelling of a bundle that realises the program, and what was
-    // printed is that bundle's run, which is the program's logical rows.
+    // printed is the run of that bundle, or of the bundle that was read. Of a program it is the text of
+    // its logical rows.
     ensures compiles { (w : ℕ) → result ≡ Status.Ok → call_of (texts words.now) ≡ Some (Call.Compile w) → Compiles (files_call (F.holds files.old) (F.holds files.new) (F.faults files.old) (F.faults files.new) (F.failed_loads files.old) (F.failed_loads files.new) (F.failed_saves files.old) (F.failed_saves files.new)) (texts words.now) w × IsSilent (sink_call (O.contents out.old) (O.contents out.new) (O.faults out.old) (O.faults out.new)) }
     ensures runs { (w v : ℕ) → result ≡ Status.Ok → call_of (texts words.now) ≡ Some (Call.Run w v) → Runs (files_call (F.holds files.old) (F.holds files.new) (F.faults files.old) (F.faults files.new) (F.failed_loads files.old) (F.failed_loads files.new) (F.failed_saves files.old) (F.failed_saves files.new)) (texts words.now) (sink_call (O.contents out.old) (O.contents out.new) (O.faults out.old) (O.faults out.new)) w v }
+    ensures executes { (v : ℕ) → result ≡ Status.Ok → call_of (texts words.now) ≡ Some (Call.Exec v) → Executes (files_call (F.holds files.old) (F.holds files.new) (F.faults files.old) (F.faults files.new) (F.failed_loads files.old) (F.failed_loads files.new) (F.failed_saves files.old) (F.failed_saves files.new)) (texts words.now) (sink_call (O.contents out.old) (O.contents out.new) (O.faults out.old) (O.faults out.new)) v × IsUnchanged (files_call (F.holds files.old) (F.holds files.new) (F.faults files.old) (F.faults files.new) (F.failed_loads files.old) (F.failed_loads files.new) (F.failed_saves files.old) (F.failed_saves files.new)) }
 
     // Each other answer comes only where its cause is, and no earlier step refused.
     ensures usage { (result ≡ Status.Usage) ↔ (call_of (texts words.now) ≡ None) }

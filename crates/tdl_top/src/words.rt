@@ -11,6 +11,8 @@ pub enum Call {
     Compile { out: usize },
     /// Save the bundle of a source, and print its run.
     Run { out: usize, scenario: usize },
+    /// Print the run of a bundle.
+    Exec { scenario: usize },
 }
 
 fn is_file_name(word: &str) -> bool
@@ -69,6 +71,9 @@ pub fn read_call(words: &[String]) -> Option<Call>
             out: 5,
             scenario: 3,
         });
+    }
+    if has_option(words, "exec", "--scen") {
+        return Some(Call::Exec { scenario: 3 });
     }
     None
 }

@@ -28,6 +28,11 @@ pub data Now : Type 0 where
   Alive : System → Now
   Dead : (node at : ℕ) → Why → Now
 
+-- a run that has no trap so far
+abbrev pub IsAlive : Now → Type 0
+IsAlive (Now.Alive s) = Unit {0}
+IsAlive (Now.Dead node at reason) = ⊥
+
 -- a run so far: its rows, its frames, and what it has come to
 pub record Run : Type 0 where
   pub rows : List Shown

@@ -1,8 +1,8 @@
 use Rattle.tdl_top.specs.declared.status.Status.TheVariants.{Ok}
-use Rattle.tdl_top.specs.declared.words.Call.TheVariants.{Compile, Run}
+use Rattle.tdl_top.specs.declared.words.Call.TheVariants.{Compile, Run, Exec}
 use Rattle.tdl_top.specs.Words.{texts, call_of}
 use Rattle.tdl_top.specs.Calls.{files_call, sink_call}
-use Rattle.tdl_top.proofs.Saying.{says_at, says_quiet}
+use Rattle.tdl_top.proofs.Saying.{says_at, says_quiet, save_silent}
 use Rattle.tdl_top.proofs.Once.{says_exactly}
 use Rattle.tdl_top.proofs.Done as done
 use Rattle.tdl_top.proofs.top.tdl.Goals as goal
@@ -25,6 +25,15 @@ returns-clause-runs g c = λ w v e called. done.runs
     (texts c.args.words.now)
     (sink_call (g.O.Sink.contents c.args.out.now) (g.O.Sink.contents c.answer.new.out) (g.O.Sink.faults c.args.out.now) (g.O.Sink.faults c.answer.new.out)) (call_of (texts c.args.words.now)) c.answer.result Ok (Run w v) called e c.answer.ensures.says)
 
+pub returns-clause-executes : goal.returns-clause-executes
+returns-clause-executes g c = λ v e called. done.executes
+    (files_call (g.F.Files.holds c.args.files.now) (g.F.Files.holds c.answer.new.files) (g.F.Files.faults c.args.files.now) (g.F.Files.faults c.answer.new.files) (g.F.Files.failed_loads c.args.files.now) (g.F.Files.failed_loads c.answer.new.files) (g.F.Files.failed_saves c.args.files.now) (g.F.Files.failed_saves c.answer.new.files))
+    (texts c.args.words.now)
+    (sink_call (g.O.Sink.contents c.args.out.now) (g.O.Sink.contents c.answer.new.out) (g.O.Sink.faults c.args.out.now) (g.O.Sink.faults c.answer.new.out)) v (says_at
+    (files_call (g.F.Files.holds c.args.files.now) (g.F.Files.holds c.answer.new.files) (g.F.Files.faults c.args.files.now) (g.F.Files.faults c.answer.new.files) (g.F.Files.failed_loads c.args.files.now) (g.F.Files.failed_loads c.answer.new.files) (g.F.Files.failed_saves c.args.files.now) (g.F.Files.failed_saves c.answer.new.files))
+    (texts c.args.words.now)
+    (sink_call (g.O.Sink.contents c.args.out.now) (g.O.Sink.contents c.answer.new.out) (g.O.Sink.faults c.args.out.now) (g.O.Sink.faults c.answer.new.out)) (call_of (texts c.args.words.now)) c.answer.result Ok (Exec v) called e c.answer.ensures.says)
+
 pub returns-clause-exactly : goal.returns-clause-exactly
 returns-clause-exactly g c = λ held status told due. says_exactly
     (files_call (g.F.Files.holds c.args.files.now) (g.F.Files.holds c.answer.new.files) (g.F.Files.faults c.args.files.now) (g.F.Files.faults c.answer.new.files) (g.F.Files.failed_loads c.args.files.now) (g.F.Files.failed_loads c.answer.new.files) (g.F.Files.failed_saves c.args.files.now) (g.F.Files.failed_saves c.answer.new.files))
@@ -42,3 +51,9 @@ returns-clause-silent g c = λ refusal. (says_quiet
     (files_call (g.F.Files.holds c.args.files.now) (g.F.Files.holds c.answer.new.files) (g.F.Files.faults c.args.files.now) (g.F.Files.faults c.answer.new.files) (g.F.Files.failed_loads c.args.files.now) (g.F.Files.failed_loads c.answer.new.files) (g.F.Files.failed_saves c.args.files.now) (g.F.Files.failed_saves c.answer.new.files))
     (texts c.args.words.now)
     (sink_call (g.O.Sink.contents c.args.out.now) (g.O.Sink.contents c.answer.new.out) (g.O.Sink.faults c.args.out.now) (g.O.Sink.faults c.answer.new.out)) (call_of (texts c.args.words.now)) c.answer.result refusal c.answer.ensures.says).1
+
+pub returns-clause-silent_save : goal.returns-clause-silent_save
+returns-clause-silent_save g c = λ w e. save_silent
+    (files_call (g.F.Files.holds c.args.files.now) (g.F.Files.holds c.answer.new.files) (g.F.Files.faults c.args.files.now) (g.F.Files.faults c.answer.new.files) (g.F.Files.failed_loads c.args.files.now) (g.F.Files.failed_loads c.answer.new.files) (g.F.Files.failed_saves c.args.files.now) (g.F.Files.failed_saves c.answer.new.files))
+    (texts c.args.words.now)
+    (sink_call (g.O.Sink.contents c.args.out.now) (g.O.Sink.contents c.answer.new.out) (g.O.Sink.faults c.args.out.now) (g.O.Sink.faults c.answer.new.out)) (call_of (texts c.args.words.now)) c.answer.result w e c.answer.ensures.says

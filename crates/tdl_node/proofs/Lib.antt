@@ -1,0 +1,5 @@
+pub mod OffBus
+pub mod Steps
+pub mod Standing
+pub mod Reaching
+pub mod Entering

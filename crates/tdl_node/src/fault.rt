@@ -1,0 +1,40 @@
+ghost use Rattle.std.specs.Prelude.{◌≡◌};
+ghost use Rattle.tdl_node.specs.Steps.{fault_of, printing_fault};
+
+use crate::Stop;
+use tdl_trace::Why;
+use tdl_walk::RunFault;
+use thiserror::Error;
+
+/// Why a run was not printed whole.
+#[derive(Clone, Copy, Debug, PartialEq, Eq, Error)]
+pub enum NodeFault {
+    #[error("a trap")]
+    Trapped(Why),
+    #[error("the rows could not be written")]
+    WriteFailed,
+    #[error("no memory")]
+    NoMemory,
+}
+
+impl From<Stop> for NodeFault {
+    ghost from_gives = { λ stop fault. fault ≡ fault_of stop };
+
+    fn from(stop: Stop) -> NodeFault {
+        match stop {
+            Stop::Trapped(why) => NodeFault::Trapped(why),
+            Stop::NoMemory => NodeFault::NoMemory,
+        }
+    }
+}
+
+impl From<RunFault> for NodeFault {
+    ghost from_gives = { λ refused fault. fault ≡ printing_fault refused };
+
+    fn from(refused: RunFault) -> NodeFault {
+        match refused {
+            RunFault::WriteFailed => NodeFault::WriteFailed,
+            RunFault::NoMemory => NodeFault::NoMemory,
+        }
+    }
+}

@@ -1,0 +1,40 @@
+ghost use Rattle.std.specs.Prelude.{◌≡◌, ◌≤◌, [], OnOk, IfErr};
+ghost use Rattle.tdl_io.specs.Outside.{Appends};
+ghost use Rattle.tdl_verify.specs.Texts.{bundle_text};
+ghost use Rattle.tdl_meaning.specs.PlainBundle.{IsPlainBundle};
+ghost use Rattle.tdl_top.specs.Calls.{sink_call};
+ghost use Rattle.tdl_top.specs.Loads.{PrintSays};
+
+use crate::Status;
+use std::alloc::Global;
+use tdl_host::HostMachine;
+use tdl_image::Bundle;
+use tdl_io::Sink;
+use tdl_node::{NodeFault, run};
+use tdl_read::bundle_names;
+use tdl_scen::Scenario;
+
+/// Runs a plain bundle under a scenario, and puts the line of each row. Such a bundle never traps.
+pub fn print_run<O: Sink>(
+    alloc: Global,
+    bundle: &Bundle,
+    scenario: &Scenario,
+    out: &mut O,
+) -> Result<(), Status>
+    requires plain { IsPlainBundle bundle.now }
+    requires times { scenario.now.times ≡ [] }
+    requires end { scenario.now.horizon.0 ≤ 1000000 }
+    ensures ok { OnOk result (Appends (O.contents out.old) (O.contents out.new) (bundle_text bundle.now scenario.now)) }
+    ensures refused { IfErr result (PrintSays (sink_call (O.contents out.old) (O.contents out.new) (O.faults out.old) (O.faults out.new)) (bundle_text bundle.now scenario.now)) }
+{
+    let names = bundle_names(alloc, bundle)?;
+    let mut machine = HostMachine::begin(alloc, bundle)?;
+    let senses = scenario.senses.as_slice();
+    let horizon = scenario.horizon.0;
+    match run(alloc, bundle, &names, &mut machine, senses, horizon, out) {
+        Ok(()) => Ok(()),
+        Err(NodeFault::Trapped(_)) => unreachable!(),
+        Err(NodeFault::WriteFailed) => Err(Status::WriteFailed),
+        Err(NodeFault::NoMemory) => Err(Status::NoMemory),
+    }
+}
