@@ -1,2 +1,5 @@
 pub mod Numbers
 pub mod Sensed
+pub mod Lists
+pub mod Bytes
+pub mod Letters

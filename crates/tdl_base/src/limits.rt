@@ -6,6 +6,9 @@ pub const SOURCE_BYTES: usize = 262_144;
 /// The greatest length of a scenario, in bytes.
 pub const SCENARIO_BYTES: usize = 4_194_304;
 
+/// The greatest length of a bundle, in bytes.
+pub const BUNDLE_BYTES: usize = 67_108_864;
+
 /// The greatest length of an identifier, in bytes.
 pub const IDENTIFIER_BYTES: usize = 64;
 

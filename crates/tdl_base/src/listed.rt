@@ -1,4 +1,4 @@
-ghost use Rattle.std.specs.Prelude.{◌≡◌, [], ◌∷◌, ◌++◌, ◌↔◌, length, slice_get, slice_set, IsTrue, OnOk, OnErr, OnSome, ◌<◌};
+ghost use Rattle.std.specs.Prelude.{◌≡◌, [], ◌∷◌, ◌++◌, ◌↔◌, length, slice_get, slice_set, IsTrue, IfOk, OnOk, OnErr, OnSome, ◌<◌};
 ghost use Rattle.std.specs.Option.{option_copied};
 
 use crate::NoMemory;
@@ -78,6 +78,15 @@ impl<T> Listed<T> {
 }
 
 impl<T: Drop> Listed<T> {
+    /// A list of one item. Without memory the item is let go.
+    pub fn only(alloc: Global, item: T) -> Result<Listed<T>, NoMemory>
+        ensures { IfOk result (λ list. list ≡ item ∷ []) }
+    {
+        let mut list = Listed::new(alloc);
+        list.push(item)?;
+        Ok(list)
+    }
+
     /// Appends an item. Without memory the list is unchanged, and the item is let go.
     pub fn push(&mut self, item: T) -> Result<(), NoMemory>
         ensures ok { OnOk result (self.new ≡ self.old ++ item ∷ []) }
@@ -107,6 +116,13 @@ mod tests {
         list.push(3u8)?;
         list.push(4)?;
         assert_eq!(rt; list.as_slice(), [3, 4].as_slice());
+        Ok(())
+    }
+
+    #[test]
+    fn has_one_item(rt: HostRuntime) -> Result<(), Fail> {
+        let list = Listed::only(rt.alloc(), 3u8)?;
+        assert_eq!(rt; list.as_slice(), [3].as_slice());
         Ok(())
     }
 }

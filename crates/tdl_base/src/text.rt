@@ -31,7 +31,6 @@ impl Text {
     }
 
     /// Takes the text over, without memory.
-    /// A copy of a text.
     pub fn from_string(text: String) -> Text
         ensures { result ≡ string_bytes text }
     {

@@ -1,9 +1,9 @@
 use Rattle.std.specs.Prelude.{ℕ, suc, List, [], ◌∷◌, map, None, codes, if◌then◌else◌}
+use Rattle.tdl_base.specs.Lists.{numbered}
 use Rattle.tdl_mode.specs.declared.program.Program.{Program}
 use Rattle.tdl_mode.specs.declared.program.Module.{Module}
 use Rattle.tdl_mode.specs.declared.program.Task.{Task}
 use Rattle.tdl_mode.specs.declared.program.PortDef.{PortDef}
-use Rattle.tdl_mode.specs.States.{numbered}
 use Rattle.tdl_trace.specs.declared.names.Names.{Names}
 use Rattle.tdl_trace.specs.declared.names.ModuleNames.{ModuleNames}
 use Rattle.tdl_trace.specs.declared.names.TaskNames.{TaskNames}

@@ -1,17 +1,13 @@
 use Rattle.std.specs.Prelude.{ℕ, zero, suc, ℤ, ◌==◌, List, [], ◌∷◌, ◌++◌, map, Option, Some, None, option_map, if◌then◌else◌}
+use Rattle.tdl_base.specs.Lists.{joined, numbered}
 use Rattle.tdl_body.specs.Values.{Look}
 use Rattle.tdl_mode.specs.declared.program.Program.{Program}
-use Rattle.tdl_mode.specs.States.{TaskState, ModuleState, State, Sensed, Course, numbered}
+use Rattle.tdl_mode.specs.States.{TaskState, ModuleState, State, Sensed, Course}
 use Rattle.tdl_mode.specs.Phases.{has_ended, task_after, phase_one, update_value}
 use Rattle.tdl_mode.specs.Instants.{look_in, logical, state_at}
 use Rattle.tdl_trace.specs.Shown.{Shown}
 use Rattle.tdl_deploy.specs.declared.placement.Placement.{Placement}
 use Rattle.tdl_deploy.specs.Placed.{hosts, sees}
-
--- the items of lists, one list after the other
-abbrev pub joined : {A : Type 0} → List (List A) → List A
-joined [] = []
-joined (xs ∷ more) = xs ++ joined more
 
 -- one item or none, as a list
 abbrev pub listed : {A : Type 0} → Option A → List A

@@ -4,8 +4,8 @@ use Rattle.std.specs.Prelude.{Ok}
 use Rattle.std.specs.Int.{w16, w32, from_be_bytes}
 use Rattle.std.proofs.lemmas.Nat.{be_bytes_2, be_bytes_4, from_be_bytes-to_be_bytes_2, from_be_bytes-to_be_bytes_4}
 use Rattle.std.proofs.lemmas.Bool.Decides.{nat_tests}
+use Rattle.tdl_base.specs.Bytes.{short, word}
 use Rattle.tdl_ecode.specs.declared.instr.EInstr.{EInstr}
-use Rattle.tdl_ecode.specs.Spelling.{short, word}
 use Rattle.tdl_ecode.specs.Reading.{number_at, two}
 
 -- each is below 256

@@ -3,10 +3,11 @@ use Rattle.std.proofs.Common.{◌≡◌, ℕ, zero, suc, ◌^◌, ◌<◌, List,
 use Rattle.std.specs.Prelude.{Result, Ok, Err, IfOk}
 use Rattle.std.specs.Int.{w16, w32}
 use Rattle.std.proofs.lemmas.List.{take-append-drop}
+use Rattle.tdl_base.specs.Bytes.{short}
 use Rattle.tdl_ecode.specs.declared.instr.EInstr.{EInstr}
 use Rattle.tdl_ecode.specs.declared.instr.EInstr.TheVariants.{Call, Release, End, Take, Mode, If, Jump, Future, Return}
 use Rattle.tdl_ecode.specs.declared.fault.InstrFault.{InstrFault}
-use Rattle.tdl_ecode.specs.Spelling.{short, einstr_bytes, IsInRange, BeginsWith}
+use Rattle.tdl_ecode.specs.Spelling.{einstr_bytes, IsInRange, BeginsWith}
 use Rattle.tdl_ecode.specs.Reading.{number_at, made_of, two, instr_at, with_len, reading}
 use Rattle.tdl_ecode.proofs.Digits.{AreBytes, bytes_after, enough, short_of, short_fits, word_of, word_fits, short_again, word_again, short_word_again, words_again}
 

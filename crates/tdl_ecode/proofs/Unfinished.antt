@@ -4,11 +4,12 @@ use Rattle.std.specs.Prelude.{Result, Ok, Err}
 use Rattle.std.specs.Int.{Width, byte_len, w16, w32, from_be_bytes}
 use Rattle.std.proofs.lemmas.List.{length-replicate}
 use Rattle.std.proofs.lemmas.Nat.{be_bytes_2, be_bytes_4}
+use Rattle.tdl_base.specs.Bytes.{short, word}
 use Rattle.tdl_ecode.specs.declared.instr.EInstr.{EInstr}
 use Rattle.tdl_ecode.specs.declared.instr.EInstr.TheVariants.{Call, Release, End, Take, Mode, If, Jump, Future, Return}
 use Rattle.tdl_ecode.specs.declared.fault.InstrFault.{InstrFault}
 use Rattle.tdl_ecode.specs.declared.fault.InstrFault.TheVariants.{Short, Unknown}
-use Rattle.tdl_ecode.specs.Spelling.{short, word, opcode_of, operand_bytes, einstr_bytes, IsInRange, IsUnfinished, HasNoOpcode}
+use Rattle.tdl_ecode.specs.Spelling.{opcode_of, operand_bytes, einstr_bytes, IsInRange, IsUnfinished, HasNoOpcode}
 use Rattle.tdl_ecode.specs.Reading.{number_at, made_of, two, instr_at, with_len, reading}
 use Rattle.tdl_ecode.proofs.Digits.{AreBytes, bytes_after, too_few, is_fewer, short_of, short_fits, word_of, word_fits}
 

@@ -1,16 +1,8 @@
 -- How an instruction is spelled in bytes.
 use Rattle.std.specs.Prelude.{◌≡◌, ◌≢◌, ℕ, ◌^◌, ◌<◌, List, [], ◌∷◌, ◌++◌, length, take}
-use Rattle.std.specs.Int.{to_be_bytes, w16, w32}
+use Rattle.tdl_base.specs.Bytes.{short, word}
 use Rattle.tdl_ecode.specs.declared.instr.EInstr.{EInstr}
 use Rattle.tdl_ecode.specs.declared.instr.EInstr.TheVariants.{Call, Release, End, Take, Mode, If, Jump, Future, Return}
-
--- a number in two bytes, the high one first
-abbrev pub short : ℕ → List ℕ
-short n = to_be_bytes w16 n
-
--- a number in four bytes, the highest first
-abbrev pub word : ℕ → List ℕ
-word n = to_be_bytes w32 n
 
 -- the first byte of each instruction
 abbrev pub opcode_of : EInstr → ℕ

@@ -1,5 +1,6 @@
 ghost use Rattle.std.specs.Prelude.{◌≡◌, ◌∷◌, ◌++◌, length, OnOk, OnErr};
-ghost use Rattle.tdl_ecode.specs.Spelling.{einstr_bytes, short, word};
+ghost use Rattle.tdl_base.specs.Bytes.{short, word};
+ghost use Rattle.tdl_ecode.specs.Spelling.{einstr_bytes};
 
 use crate::EInstr;
 use tdl_base::NoMemory;

@@ -1,9 +1,9 @@
 -- The names of a module's blocks, calls, guards, drivers and releases. A number is the place of a name.
 use Rattle.std.specs.Prelude.{ℕ, suc, Bool, true, false, ◌&&◌, ◌==◌, nat_lt, is_some, List, [], ◌∷◌, ◌++◌, map, filter, flat_map, if◌then◌else◌}
+use Rattle.tdl_base.specs.Lists.{joined, numbered}
 use Rattle.tdl_mode.specs.declared.program.Module.{Module}
 use Rattle.tdl_mode.specs.declared.program.Mode.{Mode}
 use Rattle.tdl_mode.specs.Offsets.{offsets, ascending}
-use Rattle.tdl_mode.specs.States.{numbered}
 
 -- a block of a module: the first one, or one of a mode and an offset
 pub data BlockName : Type 0 where
@@ -12,11 +12,6 @@ pub data BlockName : Type 0 where
   Updates : (mode offset : ℕ) → BlockName
   Switches : (mode offset : ℕ) → BlockName
   Starts : (mode offset : ℕ) → BlockName
-
--- the items of lists, one list after the other
-abbrev pub joined : {A : Type 0} → List (List A) → List A
-joined [] = []
-joined (xs ∷ more) = xs ++ joined more
 
 -- the blocks of an offset of a mode
 abbrev pub names_at : ℕ → Mode → ℕ → List BlockName

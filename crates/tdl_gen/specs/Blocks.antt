@@ -1,6 +1,7 @@
 -- The blocks of a module: what is done at each offset of each mode, phase by phase.
 use Rattle.std.specs.Prelude.{ℕ, suc, ◌+◌, ◌-◌, ◌==◌, ◌&&◌, List, [], ◌∷◌, ◌++◌, map, filter, length, Option, Some, None, slice_get, if◌then◌else◌}
 use Rattle.std.specs.List.{list_any}
+use Rattle.tdl_base.specs.Lists.{joined, numbered}
 use Rattle.tdl_body.specs.declared.tree.Expr.{Expr}
 use Rattle.tdl_ecode.specs.declared.instr.EInstr.{EInstr}
 use Rattle.tdl_ecode.specs.declared.instr.EInstr.TheVariants as e
@@ -11,8 +12,7 @@ use Rattle.tdl_mode.specs.declared.program.Invocation.{Invocation}
 use Rattle.tdl_mode.specs.declared.program.Update.{Update}
 use Rattle.tdl_mode.specs.declared.program.Switch.{Switch}
 use Rattle.tdl_mode.specs.Offsets.{next_offset}
-use Rattle.tdl_mode.specs.States.{numbered}
-use Rattle.tdl_gen.specs.BlockNames.{BlockName, joined, block_names, block_number, driver_names, guard_names, release_names, number_in}
+use Rattle.tdl_gen.specs.BlockNames.{BlockName, block_names, block_number, driver_names, guard_names, release_names, number_in}
 
 -- the instructions, behind an `if` to the instruction after them where the activity is guarded; the first has this index
 abbrev pub guarded : Module → ℕ → ℕ → Option Expr → ℕ → List EInstr → List EInstr

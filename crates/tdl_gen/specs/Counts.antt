@@ -1,16 +1,16 @@
 -- The declared count of a node: the most instructions that its E-machine runs at one instant.
 use Rattle.std.specs.Prelude.{ℕ, ◌+◌, ◌*◌, Bool, nat_lt, ◌==◌, max, List, [], ◌∷◌, map, filter, length, sum, count_by, if◌then◌else◌}
+use Rattle.tdl_base.specs.Lists.{joined, numbered}
 use Rattle.tdl_mode.specs.declared.program.Program.{Program}
 use Rattle.tdl_mode.specs.declared.program.Module.{Module}
 use Rattle.tdl_mode.specs.declared.program.Mode.{Mode}
 use Rattle.tdl_mode.specs.Offsets.{offsets}
-use Rattle.tdl_mode.specs.States.{numbered}
 use Rattle.tdl_deploy.specs.declared.placement.Placement.{Placement}
 use Rattle.tdl_deploy.specs.declared.schedule.Schedule.{Schedule}
 use Rattle.tdl_deploy.specs.Placed.{hosts}
 use Rattle.tdl_image.specs.declared.stub.Stub.{Stub}
 use Rattle.tdl_image.specs.declared.stub.Receive.{Receive}
-use Rattle.tdl_gen.specs.BlockNames.{BlockName, joined}
+use Rattle.tdl_gen.specs.BlockNames.{BlockName}
 use Rattle.tdl_gen.specs.Blocks.{block_of}
 use Rattle.tdl_gen.specs.Tables.{stubs_on}
 

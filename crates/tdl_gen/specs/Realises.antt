@@ -1,7 +1,8 @@
 -- What it is that a bundle realises a program.
 use Rattle.std.specs.Prelude.{◌≡◌, ◌≤◌, ◌<◌, ℕ, List, map, filter, Option, Some, option_map, option_and_then, slice_get}
+use Rattle.tdl_base.specs.Lists.{numbered}
 use Rattle.tdl_mode.specs.declared.program.Program.{Program}
-use Rattle.tdl_mode.specs.States.{Course, numbered}
+use Rattle.tdl_mode.specs.States.{Course}
 use Rattle.tdl_deploy.specs.declared.placement.Placement.{Placement}
 use Rattle.tdl_deploy.specs.declared.placement.PlacedNode.{PlacedNode}
 use Rattle.tdl_deploy.specs.declared.schedule.Schedule.{Schedule}

@@ -1,12 +1,12 @@
 -- The images of a program: its tables on each node.
 use Rattle.std.specs.Prelude.{ℕ, ◌+◌, ◌-◌, Bool, true, false, not, ◌==◌, ◌&&◌, ◌||◌, nat_lt, List, [], ◌∷◌, ◌++◌, map, filter, flat_map, find, Option, Some, None, option_map, unwrap_or, slice_get, if◌then◌else◌}
+use Rattle.tdl_base.specs.Lists.{joined, numbered}
 use Rattle.tdl_body.specs.declared.tree.Expr.{Expr}
 use Rattle.tdl_mode.specs.declared.program.Program.{Program}
 use Rattle.tdl_mode.specs.declared.program.Module.{Module}
 use Rattle.tdl_mode.specs.declared.program.Mode.{Mode}
 use Rattle.tdl_mode.specs.declared.program.Task.{Task}
 use Rattle.tdl_mode.specs.declared.program.PortDef.{PortDef}
-use Rattle.tdl_mode.specs.States.{numbered}
 use Rattle.tdl_deploy.specs.declared.placement.Placement.{Placement}
 use Rattle.tdl_deploy.specs.declared.schedule.Schedule.{Schedule}
 use Rattle.tdl_deploy.specs.declared.schedule.Window.{Window}
@@ -28,7 +28,7 @@ use Rattle.tdl_image.specs.declared.stub.Stub.{Stub}
 use Rattle.tdl_image.specs.declared.stub.StubTask.{StubTask}
 use Rattle.tdl_image.specs.declared.stub.Receive.{Receive}
 use Rattle.tdl_lower.specs.Templates.{expr_code, body_code}
-use Rattle.tdl_gen.specs.BlockNames.{InMode, BlockName, joined, block_number, call_names, driver_names, guard_names, release_names, number_in}
+use Rattle.tdl_gen.specs.BlockNames.{InMode, BlockName, block_number, call_names, driver_names, guard_names, release_names, number_in}
 use Rattle.tdl_gen.specs.Blocks.{blocks_of}
 
 -- the code of an expression

@@ -3,12 +3,13 @@ use Rattle.std.proofs.Common.{◌≡◌, ℕ, suc, List, ◌++◌, length, set, 
 use Rattle.std.proofs.lemmas.List.{append-nil}
 use Rattle.std.proofs.lemmas.Bool.{false≢true}
 use Rattle.std.proofs.lemmas.Bool.Decides.{nat_tests}
+use Rattle.tdl_base.specs.Lists.{changed_at}
 use Rattle.tdl_trace.specs.Shown.{Shown}
 use Rattle.tdl_trace.specs.declared.why.Why.TheVariants as why
 use Rattle.tdl_scen.specs.declared.entries.Sense.{Sense}
 use Rattle.tdl_ecode.specs.declared.instr.EInstr.TheVariants.{Release, End}
 use Rattle.tdl_image.specs.declared.hosted.Hosted.{Hosted}
-use Rattle.tdl_verify.specs.States.{Slot, TaskNow, HostNow, Part, changed_at}
+use Rattle.tdl_verify.specs.States.{Slot, TaskNow, HostNow, Part}
 use Rattle.tdl_image.specs.declared.hosted.TaskTable.{TaskTable}
 use Rattle.tdl_image.specs.declared.hosted.CallEntry.{CallEntry}
 use Rattle.tdl_image.specs.declared.hosted.ReleaseEntry.{ReleaseEntry}

@@ -2,6 +2,7 @@
 use Rattle.std.proofs.Common.{◌≡◌, ◌≤◌, ℕ, zero, suc, ℤ, pos, List, [], ◌∷◌, ◌++◌, length, replicate, map, Option, Some, None, slice_get, refl, subst, sym, arith}
 use Rattle.std.specs.List.{All}
 use Rattle.std.proofs.lemmas.List.Elements.{All-nil, All-cons, All-head, All-tail, All-weaker}
+use Rattle.tdl_base.specs.Lists.{changed_at}
 use Rattle.tdl_trace.specs.Shown.{Shown}
 use Rattle.tdl_scen.specs.declared.entries.Sense.{Sense}
 use Rattle.tdl_stack.specs.declared.instr.Code.{Code}
@@ -13,7 +14,7 @@ use Rattle.tdl_image.specs.declared.hosted.CallEntry.{CallEntry}
 use Rattle.tdl_image.specs.declared.hosted.ReleaseEntry.{ReleaseEntry}
 use Rattle.tdl_image.specs.declared.hosted.ImageWindow.{ImageWindow}
 use Rattle.tdl_image.specs.declared.hosted.Driver.{Driver}
-use Rattle.tdl_verify.specs.States.{Slot, TaskNow, HostNow, Part, Times, changed_at, task_first}
+use Rattle.tdl_verify.specs.States.{Slot, TaskNow, HostNow, Part, Times, task_first}
 use Rattle.tdl_verify.specs.Turns.{Acted, called, released, ended, host_acts, arguments}
 use Rattle.tdl_verify.specs.Micros.{tasks_run}
 use Rattle.tdl_host.specs.declared.act.Next.{Next}

@@ -1,11 +1,11 @@
 -- One more step along a list, for the loops over arguments and outputs, and writes at a place.
 use Rattle.std.proofs.Common.{◌≡◌, ℕ, zero, suc, ◌+◌, ◌<◌, ℤ, List, [], ◌∷◌, ◌++◌, length, drop, get_or, set, slice_get, Some, refl, ap, sym, ◌∙◌, append_assoc, add-one, ◌≤◌, arith}
 use Rattle.std.proofs.Math.Seq.{drop-cons}
+use Rattle.tdl_base.specs.Lists.{changed_at, numbered}
 use Rattle.tdl_base.specs.declared.kinds.Kind.{Kind}
 use Rattle.tdl_base.specs.declared.kinds.Kind.TheVariants.{Long}
 use Rattle.tdl_base.specs.Numbers.{narrowed}
 use Rattle.tdl_stack.specs.declared.instr.Code.{Code}
-use Rattle.tdl_verify.specs.States.{numbered, changed_at}
 use Rattle.tdl_verify.specs.Turns.{arguments}
 
 -- the first argument takes the first kind

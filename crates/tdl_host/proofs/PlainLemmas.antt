@@ -2,6 +2,7 @@
 use Rattle.std.proofs.Common.{◌≡◌, ℕ, zero, suc, Bool, true, false, ℤ, List, [], ◌∷◌, ◌++◌, filter, Option, Some, None, slice_get, refl, ap, ap₂, sym, ◌∙◌}
 use Rattle.std.proofs.lemmas.List.{append-nil}
 use Rattle.std.proofs.lemmas.List.Elements.{filter-append}
+use Rattle.tdl_base.specs.Lists.{numbered}
 use Rattle.tdl_trace.specs.Shown.{Shown}
 use Rattle.tdl_stack.specs.declared.instr.Code.{Code}
 use Rattle.tdl_ecode.specs.declared.instr.EInstr.{EInstr}
@@ -11,7 +12,7 @@ use Rattle.tdl_image.specs.declared.hosted.TaskTable.{TaskTable}
 use Rattle.tdl_image.specs.declared.hosted.CallEntry.{CallEntry}
 use Rattle.tdl_image.specs.declared.hosted.ReleaseEntry.{ReleaseEntry}
 use Rattle.tdl_image.specs.declared.hosted.Driver.{Driver}
-use Rattle.tdl_verify.specs.States.{Slot, TaskNow, HostNow, Part, Times, Sensed, numbered}
+use Rattle.tdl_verify.specs.States.{Slot, TaskNow, HostNow, Part, Times, Sensed}
 use Rattle.tdl_verify.specs.Turns.{Acted, Due, Spot, Turned, Next, called, released, ended, entered, host_acts, step_row, is_mode, acted, fetched, spent, begun, picked, least_due, instr_at, turn}
 use Rattle.tdl_verify.specs.Runs.{is_plain}
 use Rattle.tdl_node.specs.Machines.{plain_turned}

@@ -2,12 +2,13 @@
 use Rattle.std.proofs.Common.{◌≡◌, ℕ, ◌<◌, ◌≤◌, ℤ, List, length, get_or, set, slice_get, Some, false, refl, ap, sym, subst, ◌∙◌}
 use Rattle.std.proofs.lemmas.List.{set-get_or, get_or-set_same, length-set}
 use Rattle.std.proofs.lemmas.Option.{slice_get_past, slice_get-get_or}
+use Rattle.tdl_base.specs.Lists.{changed_at}
 use Rattle.tdl_trace.specs.declared.why.Why.{Why}
 use Rattle.tdl_trace.specs.declared.why.Why.TheVariants as why
 use Rattle.tdl_node.specs.declared.machine.Stop.{Stop}
 use Rattle.tdl_node.specs.declared.machine.Stop.TheVariants as stop
 use Rattle.tdl_node.specs.Machines.{IsTrap, IsTrapOf}
-use Rattle.tdl_verify.specs.States.{Slot, TaskNow, HostNow, changed_at}
+use Rattle.tdl_verify.specs.States.{Slot, TaskNow, HostNow}
 use Rattle.tdl_host.specs.Hosts.{slot_of, is_idle, with_job, IsCommitted, IsCommittedAt, IsLate}
 use Rattle.tdl_host.proofs.ListSteps.{changed_at-set, changed_at-past}
 

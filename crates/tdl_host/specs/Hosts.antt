@@ -1,5 +1,6 @@
 -- One hosted module as its machine holds it, and the words that the machine's calls use.
 use Rattle.std.specs.Prelude.{◌≡◌, ◌≤◌, All, ℕ, suc, ◌++◌, ℤ, Bool, true, false, ◌==◌, ◌&&◌, nat_le, if◌then◌else◌, List, [], ◌∷◌, filter, Option, Some, None, option_map, option_and_then, unwrap_or, slice_get, find}
+use Rattle.tdl_base.specs.Lists.{changed_at}
 use Rattle.tdl_trace.specs.Shown.{Shown}
 use Rattle.tdl_scen.specs.declared.entries.Sense.{Sense}
 use Rattle.tdl_scen.specs.Scenario.{course_of}
@@ -8,7 +9,7 @@ use Rattle.tdl_stack.specs.Running.{Look}
 use Rattle.tdl_ecode.specs.declared.instr.EInstr.{EInstr}
 use Rattle.tdl_image.specs.declared.hosted.Hosted.{Hosted}
 use Rattle.tdl_image.specs.declared.hosted.TaskTable.{TaskTable}
-use Rattle.tdl_verify.specs.States.{Slot, TaskNow, Trigger, HostNow, Part, Times, changed_at, look_on, value_on}
+use Rattle.tdl_verify.specs.States.{Slot, TaskNow, Trigger, HostNow, Part, Times, look_on, value_on}
 use Rattle.tdl_verify.specs.Turns.{Acted, Spot, Turned, host_acts, phase_of, turn}
 use Rattle.tdl_verify.specs.Runs.{is_plain}
 use Rattle.tdl_node.specs.Machines.{plain_turned}

@@ -1,6 +1,7 @@
 ghost use Rattle.std.specs.Prelude.{◌≡◌, ◌-◌, ◌^◌, true, false, IfOk, OnOk, IfErr, is_some, slice_get, Some, ◌∷◌, []};
+ghost use Rattle.tdl_base.specs.Lists.{changed_at};
 ghost use Rattle.tdl_trace.specs.declared.why.Why.TheVariants as why;
-ghost use Rattle.tdl_verify.specs.States.{Slot, Part, host_first, changed_at};
+ghost use Rattle.tdl_verify.specs.States.{Slot, Part, host_first};
 ghost use Rattle.tdl_verify.specs.Micros.{is_live, tasks_run};
 ghost use Rattle.tdl_verify.specs.Turns.{is_mode, phase_of};
 ghost use Rattle.tdl_node.specs.Machines.{IsTrapOf};

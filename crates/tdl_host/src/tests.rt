@@ -107,14 +107,6 @@ fn list<T: Copy>(alloc: Global, items: &[T]) -> Result<Listed<T>, NoMemory>
     Ok(Listed::from_vec(items))
 }
 
-fn only<T: Drop>(alloc: Global, item: T) -> Result<Listed<T>, NoMemory>
-    ensures { IfOk result (λ list. list ≡ item ∷ []) }
-{
-    let mut list = Listed::new(alloc);
-    list.push(item)?;
-    Ok(list)
-}
-
 fn code(alloc: Global, instrs: &[Instr]) -> Result<Code, NoMemory> {
     Ok(Code {
         instrs: list(alloc, instrs)?,
@@ -127,7 +119,7 @@ fn port(alloc: Global, kind: Kind) -> Result<Listed<Initial>, NoMemory> {
         name: Text::from_str(alloc, "p")?,
         initial: 1,
     };
-    only(alloc, port)
+    Listed::only(alloc, port)
 }
 
 fn blocks(alloc: Global) -> Result<Listed<Block>, NoMemory> {
@@ -185,9 +177,9 @@ fn table(alloc: Global) -> Result<TaskTable, NoMemory> {
     Ok(TaskTable {
         name: Text::from_str(alloc, "inc")?,
         worst: 2,
-        inputs: only(alloc, Kind::Int)?,
+        inputs: Listed::only(alloc, Kind::Int)?,
         outputs: port(alloc, Kind::Int)?,
-        locals: only(alloc, Kind::Int)?,
+        locals: Listed::only(alloc, Kind::Int)?,
         body: code(alloc, &sum)?,
     })
 }
@@ -212,7 +204,7 @@ fn module(alloc: Global, length: u32) -> Result<Hosted, NoMemory>
 {
     let call = CallEntry {
         task: 0,
-        args: only(alloc, sensor_code(alloc)?)?,
+        args: Listed::only(alloc, sensor_code(alloc)?)?,
     };
     let release = ReleaseEntry {
         mode: 0,
@@ -235,13 +227,13 @@ fn module(alloc: Global, length: u32) -> Result<Hosted, NoMemory>
         name: Text::from_str(alloc, "M")?,
         sensors: Listed::new(alloc),
         actuators: port(alloc, Kind::Byte)?,
-        tasks: only(alloc, table(alloc)?)?,
+        tasks: Listed::only(alloc, table(alloc)?)?,
         modes: Listed::new(alloc),
-        calls: only(alloc, call)?,
-        releases: only(alloc, release)?,
-        guards: only(alloc, sensor_code(alloc)?)?,
-        drivers: only(alloc, driver)?,
-        windows: only(alloc, window)?,
+        calls: Listed::only(alloc, call)?,
+        releases: Listed::only(alloc, release)?,
+        guards: Listed::only(alloc, sensor_code(alloc)?)?,
+        drivers: Listed::only(alloc, driver)?,
+        windows: Listed::only(alloc, window)?,
         blocks: blocks(alloc)?,
         entry: 0,
     })
@@ -253,11 +245,11 @@ fn alone(alloc: Global, declared: u32, length: u32) -> Result<Bundle, NoMemory>
     let image = Image {
         node: Text::from_str(alloc, "n1")?,
         declared,
-        hosted: only(alloc, module(alloc, length)?)?,
+        hosted: Listed::only(alloc, module(alloc, length)?)?,
         stubs: Listed::new(alloc),
     };
     Ok(Bundle {
-        images: only(alloc, image)?,
+        images: Listed::only(alloc, image)?,
     })
 }
 

@@ -1,7 +1,7 @@
 -- How a bundle is spelled in bytes: the parts of each thing in turn, numbers with their high byte first.
-use Rattle.std.specs.Prelude.{ℕ, ℤ, Bool, true, false, List, [], ◌∷◌, ◌++◌, length, codes}
+use Rattle.std.specs.Prelude.{ℕ, Bool, true, false, List, [], ◌∷◌, ◌++◌, length, codes}
 use Rattle.std.specs.List.{flat_map}
-use Rattle.std.specs.Int.{w16, w32, w64, to_be_bytes, cast_unsigned}
+use Rattle.tdl_base.specs.Bytes.{long, short, word}
 use Rattle.tdl_base.specs.declared.kinds.Kind.{Kind}
 use Rattle.tdl_base.specs.declared.kinds.Kind.TheVariants.{Boolean, Byte, Short, Int, Long}
 use Rattle.tdl_stack.specs.declared.instr.Code.{Code}
@@ -30,29 +30,17 @@ Bytes = List ℕ
 abbrev pub byte : ℕ → Bytes
 byte n = n ∷ []
 
--- a number of two bytes
-abbrev pub be16 : ℕ → Bytes
-be16 n = to_be_bytes w16 n
-
--- a number of four bytes
-abbrev pub be32 : ℕ → Bytes
-be32 n = to_be_bytes w32 n
-
--- a signed number of eight bytes, in two's complement
-abbrev pub be64 : ℤ → Bytes
-be64 v = to_be_bytes w64 (cast_unsigned w64 v)
-
 -- a string: the count of its bytes in one byte, and the bytes
 abbrev pub string : Bytes → Bytes
 string name = byte (length name) ++ name
 
 -- a short list: the count of its items in two bytes, and the items
 abbrev pub short_list : {X : Type 0} → (X → Bytes) → List X → Bytes
-short_list item items = be16 (length items) ++ flat_map item items
+short_list item items = short (length items) ++ flat_map item items
 
 -- a long list: the count of its items in four bytes, and the items
 abbrev pub long_list : {X : Type 0} → (X → Bytes) → List X → Bytes
-long_list item items = be32 (length items) ++ flat_map item items
+long_list item items = word (length items) ++ flat_map item items
 
 -- the number of a kind
 abbrev pub kind_number : Kind → ℕ
@@ -77,7 +65,7 @@ kind_name_bytes sensor = kind_bytes sensor.kind ++ string sensor.name
 
 -- an actuator or an output: kind, name, initial number
 abbrev pub initial_bytes : Initial → Bytes
-initial_bytes port = kind_bytes port.kind ++ string port.name ++ be64 port.initial
+initial_bytes port = kind_bytes port.kind ++ string port.name ++ long port.initial
 
 -- a code: its instructions
 abbrev pub stack_code_bytes : Code → Bytes
@@ -86,26 +74,26 @@ stack_code_bytes code = code_bytes code.instrs
 -- a task: name, worst case, kinds of the inputs, outputs, kinds of the locals, body
 abbrev pub task_bytes : TaskTable → Bytes
 task_bytes task =
-    string task.name ++ be32 task.worst ++
+    string task.name ++ word task.worst ++
     short_list kind_bytes task.inputs ++ short_list initial_bytes task.outputs ++ short_list kind_bytes task.locals ++
     stack_code_bytes task.body
 
 -- a call: task, arguments
 abbrev pub call_bytes : CallEntry → Bytes
-call_bytes call = be16 call.task ++ short_list stack_code_bytes call.args
+call_bytes call = short call.task ++ short_list stack_code_bytes call.args
 
 -- a release: mode, invocation, call
 abbrev pub release_bytes : ReleaseEntry → Bytes
-release_bytes release = be16 release.mode ++ be16 release.invocation ++ be16 release.call
+release_bytes release = short release.mode ++ short release.invocation ++ short release.call
 
 -- a driver: actuator, value
 abbrev pub driver_bytes : Driver → Bytes
-driver_bytes driver = be16 driver.actuator ++ stack_code_bytes driver.value
+driver_bytes driver = short driver.actuator ++ stack_code_bytes driver.value
 
 -- a window: resource, mode, invocation, offset, length
 abbrev pub window_bytes : ImageWindow → Bytes
 window_bytes window =
-    byte (resource_number window.bus) ++ be16 window.mode ++ be16 window.invocation ++ be32 window.offset ++ be32 window.length
+    byte (resource_number window.bus) ++ short window.mode ++ short window.invocation ++ word window.offset ++ word window.length
 
 -- a block: phase, instructions
 abbrev pub block_bytes : Block → Bytes
@@ -114,7 +102,7 @@ block_bytes block = byte block.phase ++ long_list einstr_bytes block.code
 -- what a hosted module declares: number, name, sensors, actuators, tasks, names of the modes
 abbrev pub declaration_bytes : Hosted → Bytes
 declaration_bytes host =
-    be16 host.number.0 ++ string host.name ++
+    short host.number.0 ++ string host.name ++
     short_list kind_name_bytes host.sensors ++ short_list initial_bytes host.actuators ++
     short_list task_bytes host.tasks ++ short_list string host.modes
 
@@ -126,7 +114,7 @@ table_bytes host =
 
 -- when a hosted module acts: windows, blocks, entry block
 abbrev pub timing_bytes : Hosted → Bytes
-timing_bytes host = long_list window_bytes host.windows ++ long_list block_bytes host.blocks ++ be32 host.entry
+timing_bytes host = long_list window_bytes host.windows ++ long_list block_bytes host.blocks ++ word host.entry
 
 -- a hosted module
 abbrev pub hosted_bytes : Hosted → Bytes
@@ -134,24 +122,24 @@ hosted_bytes host = declaration_bytes host ++ table_bytes host ++ timing_bytes h
 
 -- a task of a stub: number, name, outputs
 abbrev pub stub_task_bytes : StubTask → Bytes
-stub_task_bytes task = be16 task.number ++ string task.name ++ short_list initial_bytes task.outputs
+stub_task_bytes task = short task.number ++ string task.name ++ short_list initial_bytes task.outputs
 
 -- a receive entry: mode, invocation, task, delta, block
 abbrev pub receive_bytes : Receive → Bytes
 receive_bytes entry =
-    be16 entry.mode ++ be16 entry.invocation ++ be16 entry.task ++ be32 entry.delta ++ be32 entry.block
+    short entry.mode ++ short entry.invocation ++ short entry.task ++ word entry.delta ++ word entry.block
 
 -- a stub: number, name, tasks, receive entries, blocks
 abbrev pub stub_bytes : Stub → Bytes
 stub_bytes stub =
-    be16 stub.number.0 ++ string stub.name ++
+    short stub.number.0 ++ string stub.name ++
     short_list stub_task_bytes stub.tasks ++ short_list receive_bytes stub.entries ++ long_list block_bytes stub.blocks
 
 -- an image: node, declared count, hosted modules, stubs
 abbrev pub image_bytes : Image → Bytes
 image_bytes image =
-    string image.node ++ be32 image.declared ++ short_list hosted_bytes image.hosted ++ short_list stub_bytes image.stubs
+    string image.node ++ word image.declared ++ short_list hosted_bytes image.hosted ++ short_list stub_bytes image.stubs
 
 -- a bundle: four letters, the version 1, images
 abbrev pub bundle_bytes : Bundle → Bytes
-bundle_bytes bundle = codes "TDLB" ++ be16 1 ++ short_list image_bytes bundle.images
+bundle_bytes bundle = codes "TDLB" ++ short 1 ++ short_list image_bytes bundle.images

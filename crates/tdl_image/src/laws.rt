@@ -1,15 +1,16 @@
 //! Laws of the definitions that this crate's contracts cite. Each function does nothing: its
 //! contract is the law.
 ghost use Rattle.std.specs.Prelude.{◌≡◌, [], ◌∷◌, length, negsuc};
+ghost use Rattle.tdl_base.specs.Bytes.{long, short, word};
 ghost use Rattle.tdl_image.specs.Example.{counting, counting_bytes, bus_window, showing, showing_bytes};
 ghost use Rattle.tdl_image.specs.Spellable.{IsSpellable, IsSpellableImage};
-ghost use Rattle.tdl_image.specs.Spelling.{be16, be32, be64, bundle_bytes, image_bytes, window_bytes};
+ghost use Rattle.tdl_image.specs.Spelling.{bundle_bytes, image_bytes, window_bytes};
 
 /// The high byte of a number stands first, and a signed number is in two's complement.
 pub fn numbers()
-    ensures two_bytes { be16 0x0102 ≡ 0x01 ∷ 0x02 ∷ [] }
-    ensures four_bytes { be32 0x0102_0304 ≡ 0x01 ∷ 0x02 ∷ 0x03 ∷ 0x04 ∷ [] }
-    ensures minus_two { be64 (negsuc 1) ≡
+    ensures two_bytes { short 0x0102 ≡ 0x01 ∷ 0x02 ∷ [] }
+    ensures four_bytes { word 0x0102_0304 ≡ 0x01 ∷ 0x02 ∷ 0x03 ∷ 0x04 ∷ [] }
+    ensures minus_two { long (negsuc 1) ≡
         0xff ∷ 0xff ∷ 0xff ∷ 0xff ∷ 0xff ∷ 0xff ∷ 0xff ∷ 0xfe ∷ [] }
 {}
 

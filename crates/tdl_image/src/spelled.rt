@@ -1,6 +1,7 @@
 ghost use Rattle.std.specs.List.{flat_map};
 ghost use Rattle.std.specs.Prelude.{◌≡◌, ◌++◌, OnOk, All};
-ghost use Rattle.tdl_image.specs.Spelling.{byte, be16, be32, be64, string, short_list, long_list};
+ghost use Rattle.tdl_base.specs.Bytes.{long, short, word};
+ghost use Rattle.tdl_image.specs.Spelling.{byte, string, short_list, long_list};
 ghost use Rattle.tdl_image.specs.Spellable.{FitsShort, FitsLong};
 ghost use Rattle.tdl_image.specs.Identifiers.{IsIdentifier};
 
@@ -35,21 +36,21 @@ pub(crate) fn put_byte(into: &mut Vec<u8>, number: u8) -> Result<(), NoMemory>
 }
 
 pub(crate) fn put_u16(into: &mut Vec<u8>, number: u16) -> Result<(), NoMemory>
-    ensures { OnOk result (into.new.items ≡ into.old.items ++ be16 number) }
+    ensures { OnOk result (into.new.items ≡ into.old.items ++ short number) }
 {
     put_bytes(into, &number.to_be_bytes())?;
     Ok(())
 }
 
 pub(crate) fn put_u32(into: &mut Vec<u8>, number: u32) -> Result<(), NoMemory>
-    ensures { OnOk result (into.new.items ≡ into.old.items ++ be32 number) }
+    ensures { OnOk result (into.new.items ≡ into.old.items ++ word number) }
 {
     put_bytes(into, &number.to_be_bytes())?;
     Ok(())
 }
 
 pub(crate) fn put_i64(into: &mut Vec<u8>, number: i64) -> Result<(), NoMemory>
-    ensures { OnOk result (into.new.items ≡ into.old.items ++ be64 number) }
+    ensures { OnOk result (into.new.items ≡ into.old.items ++ long number) }
 {
     put_bytes(into, &number.to_be_bytes())?;
     Ok(())

@@ -4,12 +4,13 @@ use Rattle.std.proofs.lemmas.Bool.Decides.{nat_tests}
 use Rattle.std.proofs.lemmas.List.Elements.{All-nil, All-cons, All-from_recursion}
 use Rattle.std.proofs.lemmas.Int.{ints}
 use Rattle.std.specs.List.Sorted.{IsStrictlyIncreasing}
+use Rattle.tdl_base.specs.Letters.{is_word}
 use Rattle.tdl_base.specs.declared.kinds.Kind.TheVariants.{Int}
 use Rattle.tdl_image.specs.Identifiers.{IsIdentifier}
 use Rattle.tdl_image.specs.Spellable as sp
 use Rattle.tdl_plain.specs.declared.form.Form.{Form}
 use Rattle.tdl_plain.specs.PlainSource.{IsPlainForm, is_name, is_reserved}
-use Rattle.tdl_plain.specs.Tokens.{is_word, is_identifier}
+use Rattle.tdl_plain.specs.Tokens.{is_identifier}
 use Rattle.tdl_meaning.specs.PlainBundle.{plain_bundle, plain_hosted, plain_table, plain_blocks}
 
 and_left : (a b : Bool) → (a && b) ≡ true → a ≡ true

@@ -2,7 +2,7 @@ ghost use Rattle.std.specs.Prelude.{◌≡◌, IfOk};
 ghost use Rattle.tdl_meaning.specs.PlainBundle as plain;
 ghost use Rattle.tdl_walk.specs.Kept.{IsRunnable};
 
-use crate::parts::{argument, blocks, only, sensor, table};
+use crate::parts::{argument, blocks, sensor, table};
 use std::alloc::Global;
 use tdl_base::{Listed, ModuleId, NoMemory, Text};
 use tdl_image::{Bundle, CallEntry, Hosted, Image, ImageWindow, ReleaseEntry};
@@ -14,7 +14,7 @@ fn hosted(alloc: Global, form: &Form) -> Result<Hosted, NoMemory>
 {
     let call = CallEntry {
         task: 0,
-        args: only(alloc, argument(alloc)?)?,
+        args: Listed::only(alloc, argument(alloc)?)?,
     };
     let release = ReleaseEntry {
         mode: 0,
@@ -31,15 +31,15 @@ fn hosted(alloc: Global, form: &Form) -> Result<Hosted, NoMemory>
     Ok(Hosted {
         number: ModuleId(0),
         name: Text::from_str(alloc, form.module.as_str())?,
-        sensors: only(alloc, sensor(alloc, &form.sensor)?)?,
+        sensors: Listed::only(alloc, sensor(alloc, &form.sensor)?)?,
         actuators: Listed::new(alloc),
-        tasks: only(alloc, table(alloc, form)?)?,
-        modes: only(alloc, Text::from_str(alloc, form.mode.as_str())?)?,
-        calls: only(alloc, call)?,
-        releases: only(alloc, release)?,
+        tasks: Listed::only(alloc, table(alloc, form)?)?,
+        modes: Listed::only(alloc, Text::from_str(alloc, form.mode.as_str())?)?,
+        calls: Listed::only(alloc, call)?,
+        releases: Listed::only(alloc, release)?,
         guards: Listed::new(alloc),
         drivers: Listed::new(alloc),
-        windows: only(alloc, window)?,
+        windows: Listed::only(alloc, window)?,
         blocks: blocks(alloc, form)?,
         entry: 0,
     })
@@ -53,10 +53,10 @@ pub fn plain_bundle(alloc: Global, form: &Form) -> Result<Bundle, NoMemory>
     let image = Image {
         node: Text::from_str(alloc, "n1")?,
         declared: 11,
-        hosted: only(alloc, hosted(alloc, form)?)?,
+        hosted: Listed::only(alloc, hosted(alloc, form)?)?,
         stubs: Listed::new(alloc),
     };
     Ok(Bundle {
-        images: only(alloc, image)?,
+        images: Listed::only(alloc, image)?,
     })
 }

@@ -10,15 +10,6 @@ use tdl_image::{Initial, KindName, TaskTable};
 use tdl_plain::Form;
 use tdl_stack::{Code, Instr};
 
-/// A list of one item.
-pub(crate) fn only<T: Drop>(alloc: Global, item: T) -> Result<Listed<T>, NoMemory>
-    ensures { IfOk result (λ list. list ≡ item ∷ []) }
-{
-    let mut list = Listed::new(alloc);
-    list.push(item)?;
-    Ok(list)
-}
-
 fn code(alloc: Global, instrs: &[Instr]) -> Result<Code, NoMemory>
     ensures { IfOk result (λ code. code ≡ record { instrs = instrs.now }) }
 {
@@ -80,8 +71,8 @@ pub(crate) fn table(alloc: Global, form: &Form) -> Result<TaskTable, NoMemory>
     Ok(TaskTable {
         name: Text::from_str(alloc, form.task.as_str())?,
         worst: form.worst as u32,
-        inputs: only(alloc, Kind::Int)?,
-        outputs: only(alloc, output)?,
+        inputs: Listed::only(alloc, Kind::Int)?,
+        outputs: Listed::only(alloc, output)?,
         locals: Listed::new(alloc),
         body: body(alloc)?,
     })

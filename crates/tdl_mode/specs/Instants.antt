@@ -1,10 +1,11 @@
 use Rattle.std.specs.Prelude.{ℕ, zero, suc, ℤ, map, None}
+use Rattle.tdl_base.specs.Lists.{numbered}
 use Rattle.tdl_base.specs.declared.numbers.PortKey.{PortKey}
 use Rattle.tdl_body.specs.Values.{Look}
 use Rattle.tdl_mode.specs.declared.program.Program.{Program}
 use Rattle.tdl_mode.specs.declared.program.Module.{Module}
 use Rattle.tdl_mode.specs.declared.program.Task.{Task}
-use Rattle.tdl_mode.specs.States.{TaskState, ModuleState, State, Sensed, Course, numbered, initials_of, outputs_in, look_of}
+use Rattle.tdl_mode.specs.States.{TaskState, ModuleState, State, Sensed, Course, initials_of, outputs_in, look_of}
 use Rattle.tdl_mode.specs.Phases.{phase_one, phase_two, phase_three, phase_four}
 
 -- what each module may read in a state

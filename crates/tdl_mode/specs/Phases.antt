@@ -1,4 +1,5 @@
 use Rattle.std.specs.Prelude.{ℕ, suc, ◌+◌, ℤ, Bool, false, ◌&&◌, List, [], ◌∷◌, map, Option, Some, None, option_map, unwrap_or, slice_get, if◌then◌else◌, ◌==◌, find}
+use Rattle.tdl_base.specs.Lists.{changed_at, numbered}
 use Rattle.tdl_base.specs.declared.kinds.Kind.{Kind}
 use Rattle.tdl_base.specs.declared.kinds.Kind.TheVariants.{Long}
 use Rattle.tdl_base.specs.Numbers.{narrowed}
@@ -7,7 +8,7 @@ use Rattle.tdl_body.specs.Values.{Look, value_of, holds}
 use Rattle.tdl_mode.specs.declared.program.Invocation.{Invocation}
 use Rattle.tdl_mode.specs.declared.program.Update.{Update}
 use Rattle.tdl_mode.specs.declared.program.Switch.{Switch}
-use Rattle.tdl_mode.specs.States.{Job, TaskState, ModuleState, numbered, changed_at, result_of, present, invocation_of, invocations_now, kinds_of}
+use Rattle.tdl_mode.specs.States.{Job, TaskState, ModuleState, result_of, present, invocation_of, invocations_now, kinds_of}
 
 -- 1. Termination: each invocation of the present mode that ends at x and whose job is active
 

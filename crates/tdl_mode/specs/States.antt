@@ -1,4 +1,4 @@
-use Rattle.std.specs.Prelude.{ℕ, zero, suc, ℤ, pos, List, [], ◌∷◌, ◌++◌, map, length, take, drop, replicate, Option, None, option_map, unwrap_or, slice_get, slice_index_or, if◌then◌else◌, ◌==◌}
+use Rattle.std.specs.Prelude.{ℕ, zero, suc, ℤ, pos, List, [], ◌++◌, map, length, take, drop, replicate, Option, None, option_map, unwrap_or, slice_get, slice_index_or, if◌then◌else◌, ◌==◌}
 use Rattle.tdl_base.specs.declared.kinds.Kind.{Kind}
 use Rattle.tdl_base.specs.declared.numbers.PortKey.{PortKey}
 use Rattle.tdl_body.specs.Values.{Look}
@@ -8,17 +8,6 @@ use Rattle.tdl_mode.specs.declared.program.Task.{Task}
 use Rattle.tdl_mode.specs.declared.program.Mode.{Mode}
 use Rattle.tdl_mode.specs.declared.program.PortDef.{PortDef}
 use Rattle.tdl_mode.specs.declared.program.Invocation.{Invocation}
-
--- f of each item with its number, the first being k
-abbrev pub numbered : {A B : Type 0} → ℕ → (ℕ → A → B) → List A → List B
-numbered k f [] = []
-numbered k f (x ∷ xs) = f k x ∷ numbered (suc k) f xs
-
--- the list with f of its item k in that item's place
-abbrev pub changed_at : {A : Type 0} → ℕ → (A → A) → List A → List A
-changed_at k f [] = []
-changed_at zero f (x ∷ xs) = f x ∷ xs
-changed_at (suc k) f (x ∷ xs) = x ∷ changed_at k f xs
 
 -- an active job: the mode and number of its invocation, and the inputs that were copied at its release
 pub record Job : Type 0 where

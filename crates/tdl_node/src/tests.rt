@@ -59,14 +59,6 @@ impl Machine for Entering {
     }
 }
 
-fn only<T: Drop>(alloc: Global, item: T) -> Result<Listed<T>, NoMemory>
-    ensures { IfOk result (λ list. list ≡ item ∷ []) }
-{
-    let mut list = Listed::new(alloc);
-    list.push(item)?;
-    Ok(list)
-}
-
 fn hosted(alloc: Global) -> Result<Hosted, NoMemory>
     ensures { IfOk result (λ hosted. hosted ≡ entering) }
 {
@@ -81,13 +73,13 @@ fn hosted(alloc: Global) -> Result<Hosted, NoMemory>
         sensors: Listed::new(alloc),
         actuators: Listed::new(alloc),
         tasks: Listed::new(alloc),
-        modes: only(alloc, Text::from_str(alloc, "main")?)?,
+        modes: Listed::only(alloc, Text::from_str(alloc, "main")?)?,
         calls: Listed::new(alloc),
         releases: Listed::new(alloc),
         guards: Listed::new(alloc),
         drivers: Listed::new(alloc),
         windows: Listed::new(alloc),
-        blocks: only(alloc, block)?,
+        blocks: Listed::only(alloc, block)?,
         entry: 0,
     })
 }
@@ -98,11 +90,11 @@ fn bundle(alloc: Global) -> Result<Bundle, NoMemory>
     let image = Image {
         node: Text::from_str(alloc, "n1")?,
         declared: 2,
-        hosted: only(alloc, hosted(alloc)?)?,
+        hosted: Listed::only(alloc, hosted(alloc)?)?,
         stubs: Listed::new(alloc),
     };
     Ok(Bundle {
-        images: only(alloc, image)?,
+        images: Listed::only(alloc, image)?,
     })
 }
 
@@ -114,11 +106,11 @@ fn names(alloc: Global) -> Result<Names, NoMemory> {
         sensors: Listed::new(alloc),
         actuators: Listed::new(alloc),
         tasks: Listed::new(alloc),
-        modes: only(alloc, Text::from_str(alloc, "main")?)?,
+        modes: Listed::only(alloc, Text::from_str(alloc, "main")?)?,
     };
     Ok(Names {
-        nodes: only(alloc, Text::from_str(alloc, "n1")?)?,
-        modules: only(alloc, names)?,
+        nodes: Listed::only(alloc, Text::from_str(alloc, "n1")?)?,
+        modules: Listed::only(alloc, names)?,
     })
 }
 

@@ -3,7 +3,8 @@ use Rattle.std.specs.List.{list_all, prefix_len}
 use Rattle.std.proofs.lemmas.Bool.{and_parts, and_from, or_cases, or_left, or_right, false≢true}
 use Rattle.std.proofs.lemmas.List.Sums.{prefix_len-le-length}
 use Rattle.std.proofs.lemmas.List.Folds.{length-prefix_len}
-use Rattle.tdl_plain.specs.Tokens.{is_letter, is_digit, is_name_byte, is_word, is_identifier, is_number, is_sign, is_lexeme, is_token, IsFirst}
+use Rattle.tdl_base.specs.Letters.{is_digit, is_letter, is_name_byte, is_word}
+use Rattle.tdl_plain.specs.Tokens.{is_identifier, is_number, is_sign, is_lexeme, is_token, IsFirst}
 use Rattle.tdl_plain.specs.Reading.{IsTokenLength, begins_sign}
 use Rattle.tdl_plain.proofs.Lexemes.{prefix_cases, run_passes, sign_short, first_longest, longest_unique, token_lexeme, letter_no_digit, letter_name, name_no_sign, letter_lexeme, digit_lexeme, other_lexeme, run_longest}
 

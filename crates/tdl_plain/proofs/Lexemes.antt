@@ -5,7 +5,8 @@ use Rattle.std.proofs.Math.Bool.{or-false}
 use Rattle.std.proofs.lemmas.Bool.Decides.{nat_tests}
 use Rattle.std.proofs.lemmas.List.Folds.{list_all-append}
 use Rattle.std.proofs.lemmas.Slice.Eq.{bytes_eq-Decides}
-use Rattle.tdl_plain.specs.Tokens.{is_blank, is_letter, is_digit, is_name_byte, is_word, is_identifier, is_number, signs, is_sign, is_lexeme, is_token, IsFirst}
+use Rattle.tdl_base.specs.Letters.{is_digit, is_letter, is_name_byte, is_word}
+use Rattle.tdl_plain.specs.Tokens.{is_blank, is_identifier, is_number, signs, is_sign, is_lexeme, is_token, IsFirst}
 
 -- `zs ++ ws` cut further on than `xs ++ ys`
 abbrev pub Longer : List ℕ → List ℕ → List ℕ → List ℕ → Type 0

@@ -5,11 +5,12 @@ use Rattle.std.proofs.lemmas.Bool.Decides.{nat_tests}
 use Rattle.std.proofs.lemmas.Slice.Eq.{bytes_eq-Decides}
 use Rattle.std.proofs.lemmas.Str.{IsUtf8-from_ascii}
 use Rattle.std.proofs.lemmas.Str.Ascii.{IsAscii-cons}
+use Rattle.tdl_base.specs.Letters.{is_letter, is_name_byte, is_word}
 use Rattle.tdl_plain.specs.declared.form.Form.{Form}
 use Rattle.tdl_plain.specs.declared.form.SourceError.{SourceError}
 use Rattle.tdl_plain.specs.declared.sentence.Parts.{Parts}
 use Rattle.tdl_plain.specs.declared.lawful.Numbers.{Numbers}
-use Rattle.tdl_plain.specs.Tokens.{is_letter, is_name_byte, is_word, is_identifier, Spells}
+use Rattle.tdl_plain.specs.Tokens.{is_identifier, Spells}
 use Rattle.tdl_plain.specs.PlainSource.{is_name, is_reserved, IsNumeral, sentence, IsPlainSource}
 use Rattle.tdl_plain.specs.Reading.{text_at, sentence_of, are_names, are_apart, in_range, HasNumbers, form_of, IsFormOf}
 use Rattle.tdl_plain.proofs.Lexemes.{letter_name}

@@ -2,7 +2,8 @@ use Rattle.std.proofs.Common.{◌≡◌, ℕ, ◌<◌, true, false, ◌||◌, Li
 use Rattle.std.specs.List.{list_all, prefix_len}
 use Rattle.std.proofs.lemmas.Bool.{and_parts, or_cases, cases_Bool, false≢true}
 use Rattle.std.proofs.lemmas.List.Folds.{list_all-append}
-use Rattle.tdl_plain.specs.Tokens.{is_blank, is_letter, is_digit, is_name_byte, is_word, is_number, is_sign, is_lexeme, IsFirst, Begins, Spells}
+use Rattle.tdl_base.specs.Letters.{is_digit, is_letter, is_name_byte, is_word}
+use Rattle.tdl_plain.specs.Tokens.{is_blank, is_number, is_sign, is_lexeme, IsFirst, Begins, Spells}
 use Rattle.tdl_plain.specs.Reading.{IsTokenLength}
 use Rattle.tdl_plain.proofs.Lexemes.{run_passes, first_longest, longest_unique, token_lexeme, letter_name, digit_name, name_no_blank, sign_apart}
 use Rattle.tdl_plain.proofs.Cutting.{empty_no_token, run_longer}

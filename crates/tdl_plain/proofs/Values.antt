@@ -1,7 +1,8 @@
 use Rattle.std.proofs.Common.{◌≡◌, ℕ, ◌+◌, ◌-◌, ◌*◌, ◌^◌, ◌<◌, min, true, List, [], ◌∷◌, ◌++◌, length, take, drop, get_or, refl, ap, ◌∙◌, arith, pow-suc, add-one}
 use Rattle.std.specs.List.{list_all}
 use Rattle.std.proofs.lemmas.List.{take_more, length_push, take_rest}
-use Rattle.tdl_plain.specs.Tokens.{is_letter, is_digit, is_name_byte, is_word, is_number}
+use Rattle.tdl_base.specs.Letters.{is_digit, is_letter, is_name_byte, is_word}
+use Rattle.tdl_plain.specs.Tokens.{is_number}
 use Rattle.tdl_plain.specs.PlainSource.{number_value}
 
 -- a word that begins with a letter is one by its other bytes

@@ -1,5 +1,6 @@
 ghost use Rattle.std.specs.Prelude.{◌≡◌, ℕ, ◌≤◌, List, IfOk, IsErrOf, map, bytes_eq, length, drop, IsTrue, IsFalse, IfSome, IfNone, slice_index};
 ghost use Rattle.std.specs.List.{list_all, list_any, prefix_len};
+ghost use Rattle.tdl_base.specs.Letters as letters;
 ghost use Rattle.tdl_plain.specs.Tokens as spec;
 ghost use Rattle.tdl_plain.specs.Reading as reading;
 
@@ -14,19 +15,19 @@ fn is_blank(c: u8) -> bool
 }
 
 pub fn is_letter(c: u8) -> bool
-    ensures { result ≡ spec.is_letter c }
+    ensures { result ≡ letters.is_letter c }
 {
     matches!(c, b'A'..=b'Z' | b'a'..=b'z')
 }
 
 pub fn is_digit(c: u8) -> bool
-    ensures { result ≡ spec.is_digit c }
+    ensures { result ≡ letters.is_digit c }
 {
     matches!(c, b'0'..=b'9')
 }
 
 pub fn is_name_byte(c: u8) -> bool
-    ensures { result ≡ spec.is_name_byte c }
+    ensures { result ≡ letters.is_name_byte c }
 {
     is_letter(c) || is_digit(c) || c == b'_'
 }
@@ -53,14 +54,14 @@ fn is_sign(token: &[u8]) -> bool
 
 /// How many of the first bytes are identifier bytes.
 fn identifier_run(bytes: &[u8]) -> usize
-    ensures { result ≡ prefix_len spec.is_name_byte bytes.now }
+    ensures { result ≡ prefix_len letters.is_name_byte bytes.now }
 {
     bytes.iter().take_while(|c| is_name_byte(**c)).count()
 }
 
 /// How many of the first bytes are digits.
 fn digit_run(bytes: &[u8]) -> usize
-    ensures { result ≡ prefix_len spec.is_digit bytes.now }
+    ensures { result ≡ prefix_len letters.is_digit bytes.now }
 {
     bytes.iter().take_while(|c| is_digit(**c)).count()
 }
@@ -82,7 +83,7 @@ fn behind_blanks(bytes: &[u8]) -> &[u8]
 
 /// The length of the word at the front, unless it is too long for a token.
 fn word_length(bytes: &[u8]) -> Option<usize>
-    requires { IsTrue (spec.is_letter (slice_index bytes.now 0)) }
+    requires { IsTrue (letters.is_letter (slice_index bytes.now 0)) }
     ensures { reading.IsTokenLength result bytes.now }
 {
     let length = identifier_run(bytes);
@@ -94,7 +95,7 @@ fn word_length(bytes: &[u8]) -> Option<usize>
 
 /// The length of the number at the front.
 fn number_length(bytes: &[u8]) -> Option<usize>
-    requires { IsTrue (spec.is_digit (slice_index bytes.now 0)) }
+    requires { IsTrue (letters.is_digit (slice_index bytes.now 0)) }
     ensures { reading.IsTokenLength result bytes.now }
 {
     Some(digit_run(bytes))
@@ -108,8 +109,8 @@ fn begins_sign(length: usize, bytes: &[u8]) -> bool
 
 /// The length of the sign at the front: the longer one first.
 fn sign_length(bytes: &[u8]) -> Option<usize>
-    requires no_letter { IsFalse (spec.is_letter (slice_index bytes.now 0)) }
-    requires no_digit { IsFalse (spec.is_digit (slice_index bytes.now 0)) }
+    requires no_letter { IsFalse (letters.is_letter (slice_index bytes.now 0)) }
+    requires no_digit { IsFalse (letters.is_digit (slice_index bytes.now 0)) }
     ensures { reading.IsTokenLength result bytes.now }
 {
     if begins_sign(2, bytes) {

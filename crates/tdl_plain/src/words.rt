@@ -1,5 +1,6 @@
 ghost use Rattle.std.specs.Prelude.{◌≡◌, ◌-◌, min, Some, None, if◌then◌else◌};
 ghost use Rattle.std.specs.List.{list_all};
+ghost use Rattle.tdl_base.specs.Letters as letters;
 ghost use Rattle.tdl_plain.specs.Tokens as tokens;
 ghost use Rattle.tdl_plain.specs.PlainSource as spec;
 
@@ -14,19 +15,19 @@ const RESERVED_WORDS: [&str; 30] = [
 ];
 
 fn are_name_bytes(bytes: &[u8]) -> bool
-    ensures { result ≡ list_all tokens.is_name_byte bytes.now }
+    ensures { result ≡ list_all letters.is_name_byte bytes.now }
 {
     bytes.iter().all(|c| is_name_byte(*c))
 }
 
 fn are_digits(bytes: &[u8]) -> bool
-    ensures { result ≡ list_all tokens.is_digit bytes.now }
+    ensures { result ≡ list_all letters.is_digit bytes.now }
 {
     bytes.iter().all(|c| is_digit(*c))
 }
 
 fn is_word(token: &[u8]) -> bool
-    ensures { result ≡ tokens.is_word token.now }
+    ensures { result ≡ letters.is_word token.now }
 {
     match token {
         [first, others @ ..] => is_letter(*first) && are_name_bytes(others),

@@ -6,9 +6,10 @@ use Rattle.std.proofs.lemmas.List.{append_assoc, append-nil}
 use Rattle.std.proofs.lemmas.Nat.{from_be_bytes-to_be_bytes_4, from_be_bytes-to_be_bytes_8}
 use Rattle.std.proofs.lemmas.Bool.{false≢true}
 use Rattle.std.proofs.lemmas.Slice.Eq.{bytes_eq-Decides}
+use Rattle.tdl_base.specs.Bytes.{long, short, word}
 use Rattle.tdl_ecode.proofs.Digits.{enough}
 use Rattle.tdl_image.specs.declared.bundle.Bundle.{Bundle}
-use Rattle.tdl_image.specs.Spelling.{byte, be16, be32, be64, string, stack_code_bytes, table_bytes, timing_bytes, bundle_bytes}
+use Rattle.tdl_image.specs.Spelling.{byte, string, stack_code_bytes, table_bytes, timing_bytes, bundle_bytes}
 use Rattle.tdl_plain.specs.declared.form.Form.{Form}
 use Rattle.tdl_plain.specs.PlainProgram.{period_us}
 use Rattle.tdl_plain.specs.PlainSource.{is_name, is_reserved, IsPlainForm}
@@ -26,12 +27,12 @@ name_again : (name rest : List ℕ) → is_name name ≡ true → name_in (strin
 name_again name rest h = rw (take-append_seam name rest, h) refl
 
 -- so is a number of four bytes
-word_again : (n : ℕ) (rest : List ℕ) → n < 2 ^ 32 → number_in w32 (be32 n ++ rest) ≡ n
-word_again n rest fits = rw (enough (length (be32 n ++ rest)) 4 (omega arith)) (from_be_bytes-to_be_bytes_4 n fits)
+word_again : (n : ℕ) (rest : List ℕ) → n < 2 ^ 32 → number_in w32 (word n ++ rest) ≡ n
+word_again n rest fits = rw (enough (length (word n ++ rest)) 4 (omega arith)) (from_be_bytes-to_be_bytes_4 n fits)
 
 -- and one of eight
-long_again : (n : ℕ) (rest : List ℕ) → n < 2 ^ 64 → number_in w64 (be64 (pos n) ++ rest) ≡ n
-long_again n rest fits = rw (enough (length (be64 (pos n) ++ rest)) 8 (omega arith)) (from_be_bytes-to_be_bytes_8 n fits)
+long_again : (n : ℕ) (rest : List ℕ) → n < 2 ^ 64 → number_in w64 (long (pos n) ++ rest) ≡ n
+long_again n rest fits = rw (enough (length (long (pos n) ++ rest)) 8 (omega arith)) (from_be_bytes-to_be_bytes_8 n fits)
 
 -- the period in milliseconds
 whole_period : (n : ℕ) → n * 1000 / 1000 ≡ n
@@ -50,27 +51,27 @@ apart false output e = λ same. absurd (false≢true (sym e ∙ (bytes_eq-Decide
 
 -- the bytes before the module's name
 abbrev opening : List ℕ
-opening = codes "TDLB" ++ be16 1 ++ be16 1 ++ string (codes "n1") ++ be32 11 ++ be16 1 ++ be16 0
+opening = codes "TDLB" ++ short 1 ++ short 1 ++ string (codes "n1") ++ word 11 ++ short 1 ++ short 0
 
 -- those behind the mode's name
 abbrev closing : Form → List ℕ
-closing f = table_bytes (plain_hosted f) ++ timing_bytes (plain_hosted f) ++ be16 0
+closing f = table_bytes (plain_hosted f) ++ timing_bytes (plain_hosted f) ++ short 0
 
 -- those behind the output's name
 abbrev behind_output : Form → List ℕ
-behind_output f = be64 (pos f.initial) ++ be16 0 ++ stack_code_bytes add_code ++ be16 1 ++ (string f.mode ++ closing f)
+behind_output f = long (pos f.initial) ++ short 0 ++ stack_code_bytes add_code ++ short 1 ++ (string f.mode ++ closing f)
 
 -- those behind the task's name
 abbrev behind_task : Form → List ℕ
-behind_task f = be32 f.worst ++ be16 1 ++ byte 3 ++ be16 1 ++ byte 3 ++ (string f.output ++ behind_output f)
+behind_task f = word f.worst ++ short 1 ++ byte 3 ++ short 1 ++ byte 3 ++ (string f.output ++ behind_output f)
 
 -- those behind the sensor's name
 abbrev behind_sensor : Form → List ℕ
-behind_sensor f = be16 0 ++ be16 1 ++ (string f.task ++ behind_task f)
+behind_sensor f = short 0 ++ short 1 ++ (string f.task ++ behind_task f)
 
 -- those behind the module's name
 abbrev behind_module : Form → List ℕ
-behind_module f = be16 1 ++ byte 3 ++ (string f.sensor ++ behind_sensor f)
+behind_module f = short 1 ++ byte 3 ++ (string f.sensor ++ behind_sensor f)
 
 -- all bytes, each name before what is behind it
 abbrev laid : Form → List ℕ
@@ -85,8 +86,8 @@ in_turn mark one node count number m s none t w inputs o i code d tables times =
 -- so the bytes are laid out
 laid_out : (f : Form) → bundle_bytes (plain_bundle f) ≡ laid f
 laid_out f =
-    in_turn (codes "TDLB") (be16 1) (string (codes "n1")) (be32 11) (be16 0) (string f.module) (byte 3 ++ string f.sensor) (be16 0)
-    (string f.task) (be32 f.worst) (be16 1 ++ byte 3) (byte 3 ++ string f.output) (be64 (pos f.initial)) (stack_code_bytes add_code)
+    in_turn (codes "TDLB") (short 1) (string (codes "n1")) (word 11) (short 0) (string f.module) (byte 3 ++ string f.sensor) (short 0)
+    (string f.task) (word f.worst) (short 1 ++ byte 3) (byte 3 ++ string f.output) (long (pos f.initial)) (stack_code_bytes add_code)
     (string f.mode) (table_bytes (plain_hosted f)) (timing_bytes (plain_hosted f))
 
 module _ (f : Form) (lawful : IsPlainForm f) where

@@ -7,14 +7,6 @@ use tdl_base::{Kind, Listed, NoMemory, NodeId, Text, Us};
 use tdl_image::{Bundle, Hosted, Initial, KindName, TaskTable};
 use tdl_trace::{ModuleNames, Named, Names, TaskNames};
 
-fn only<T: Drop>(alloc: Global, item: T) -> Result<Listed<T>, NoMemory>
-    ensures { IfOk result (λ list. list ≡ item ∷ []) }
-{
-    let mut list = Listed::new(alloc);
-    list.push(item)?;
-    Ok(list)
-}
-
 fn copies(alloc: Global, names: &[Text]) -> Result<Listed<Text>, NoMemory>
     ensures { IfOk result (λ list. list ≡ names.now) }
 {
@@ -101,7 +93,7 @@ pub fn bundle_names(alloc: Global, bundle: &Bundle) -> Result<Names, NoMemory>
         unreachable!()
     };
     Ok(Names {
-        nodes: only(alloc, Text::from_str(alloc, image.node.as_str())?)?,
-        modules: only(alloc, host_names(alloc, host)?)?,
+        nodes: Listed::only(alloc, Text::from_str(alloc, image.node.as_str())?)?,
+        modules: Listed::only(alloc, host_names(alloc, host)?)?,
     })
 }

@@ -1,7 +1,7 @@
 -- How stack code is spelled in bytes.
-use Rattle.std.specs.Prelude.{ℕ, List, [], ◌∷◌, ◌++◌, length, ℤ}
-use Rattle.std.specs.Int.{to_be_bytes, cast_unsigned, w16, w32, w64}
+use Rattle.std.specs.Prelude.{ℕ, List, [], ◌∷◌, ◌++◌, length}
 use Rattle.std.specs.List.{flat_map}
+use Rattle.tdl_base.specs.Bytes.{long, short, word}
 use Rattle.tdl_base.specs.declared.arithmetic.UnOp.{UnOp}
 use Rattle.tdl_base.specs.declared.arithmetic.UnOp.TheVariants.{Neg, Not}
 use Rattle.tdl_base.specs.declared.arithmetic.BinOp.{BinOp}
@@ -9,18 +9,6 @@ use Rattle.tdl_base.specs.declared.arithmetic.BinOp.TheVariants.{Add, Sub, Mul, 
 use Rattle.tdl_base.specs.declared.numbers.Place.TheVariants.{Sensor, Port, Cell}
 use Rattle.tdl_stack.specs.declared.instr.Instr.{Instr}
 use Rattle.tdl_stack.specs.declared.instr.Instr.TheVariants.{Const, Load, Store, Un, Bin, Jz, Jmp, Rep}
-
--- a number in two bytes, the high one first
-abbrev pub short : ℕ → List ℕ
-short n = to_be_bytes w16 n
-
--- a number in four bytes, the highest first
-abbrev pub word : ℕ → List ℕ
-word n = to_be_bytes w32 n
-
--- a signed number in eight bytes, in two's complement, the highest first
-abbrev pub long : ℤ → List ℕ
-long v = to_be_bytes w64 (cast_unsigned w64 v)
 
 -- the byte of an operator with one operand
 abbrev pub un_byte : UnOp → ℕ

@@ -1,5 +1,6 @@
 ghost use Rattle.std.specs.Prelude.{◌≡◌, ◌∷◌, ◌++◌, OnOk, OnErr};
-ghost use Rattle.tdl_stack.specs.Spelling.{instr_bytes, un_byte, bin_byte, short, word, long};
+ghost use Rattle.tdl_base.specs.Bytes.{long, short, word};
+ghost use Rattle.tdl_stack.specs.Spelling.{instr_bytes, un_byte, bin_byte};
 
 use crate::Instr;
 use tdl_base::{BinOp, NoMemory, Place, PortKey, UnOp};

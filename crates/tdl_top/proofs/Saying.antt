@@ -15,7 +15,7 @@ use Rattle.tdl_top.specs.declared.status.Status.TheVariants.{Ok, Usage, LoadFail
 use Rattle.tdl_top.specs.declared.words.Call.{Call}
 use Rattle.tdl_top.specs.declared.words.Call.TheVariants.{Compile, Run, Exec}
 use Rattle.tdl_top.specs.Words.{Words, word_at, out_word, scenario_word}
-use Rattle.tdl_top.specs.Calls.{FilesCall, SinkCall, files_call, sink_call, IsUnchanged, IsSilent}
+use Rattle.tdl_top.specs.Calls.{FilesCall, SinkCall, files_told, sink_told, IsUnchanged, IsSilent}
 use Rattle.tdl_top.specs.Loads.{LoadSays, SaveSays, PrintSays}
 use Rattle.tdl_top.specs.Reports.{IsSaid, IsQuiet, IsToldOfSave}
 use Rattle.tdl_top.specs.Answers.{IsRead, HasBundle, HasNoBundle, HasScenario, HasAsked, InputSays, IsOfSource, Leaves, Prints, PrintsSome, IsPartDone, SaysOf, SaysBy, first_limit}
@@ -111,7 +111,7 @@ bundle_still holds holds1 words call b e has = subst (λ (h : Option Held). HasB
 
 -- what an input says behind a call it says behind an earlier one that left what the files hold
 same_holds : (holds b b' : Option Held) (f f1 f2 : ℕ) (l l1 l2 s s' t t' : Option Counts) (words : Words) (call : Call) (st : Status) → f ≤ f1 → NoCountFalls l l1 →
-    InputSays (files_call holds b f1 f2 l1 l2 s t) words call st → InputSays (files_call holds b' f f2 l l2 s' t') words call st
+    InputSays (files_told holds b f1 f2 l1 l2 s t) words call st → InputSays (files_told holds b' f f2 l l2 s' t') words call st
 same_holds holds b b' f f1 f2 l l1 l2 s s' t t' words call Ok le falls says = absurd says
 same_holds holds b b' f f1 f2 l l1 l2 s s' t t' words call Usage le falls says = absurd says
 same_holds holds b b' f f1 f2 l l1 l2 s s' t t' words call (LoadFailed w) le falls says = record {
@@ -127,10 +127,10 @@ same_holds holds b b' f f1 f2 l l1 l2 s s' t t' words call (BadForm w) le falls 
 
 pub says_earlier : (holds holds1 b b' : Option Held) (f f1 f2 : ℕ) (l l1 l2 s s' t t' : Option Counts) (words : Words) (call : Call) (st : Status) →
     holds1 ≡ holds → f ≤ f1 → NoCountFalls l l1 →
-    InputSays (files_call holds1 b f1 f2 l1 l2 s t) words call st → InputSays (files_call holds b' f f2 l l2 s' t') words call st
+    InputSays (files_told holds1 b f1 f2 l1 l2 s t) words call st → InputSays (files_told holds b' f f2 l l2 s' t') words call st
 says_earlier holds holds1 b b' f f1 f2 l l1 l2 s s' t t' words call st e le falls says =
     same_holds holds b b' f f1 f2 l l1 l2 s s' t t' words call st le falls
-    (subst (λ (h : Option Held). InputSays (files_call h b f1 f2 l1 l2 s t) words call st) e says)
+    (subst (λ (h : Option Held). InputSays (files_told h b f1 f2 l1 l2 s t) words call st) e says)
 
 -- inputs that are refused, before anything is saved or printed
 pub says_input : (files : FilesCall) (words : Words) (out : SinkCall) (call : Call) (s : Status) → IsUnchanged files → IsSilent out →
@@ -180,7 +180,7 @@ says_scenario files words call b at (BadForm w) has word says = absurd says
 same_save : (holds b : Option Held) (f f1 f2 : ℕ) (l l' t t' s s1 s2 : Option Counts) (words : Words) (out : SinkCall) (call : Call) (bundle : Bundle) (at : ℕ) (st : Status) →
     f ≤ f1 → NoCountChanges s s1 → HasBundle holds words call bundle → HasAsked holds words bundle (scenario_word call) → out_word call ≡ Some at →
     KeepsOthers holds b (word_at words at) → IsSilent out →
-    SaveSays (files_call holds b f1 f2 t t' s1 s2) (word_at words at) at st → SaysOf (files_call holds b f f2 l l' s s2) words out call st
+    SaveSays (files_told holds b f1 f2 t t' s1 s2) (word_at words at) at st → SaysOf (files_told holds b f f2 l l' s s2) words out call st
 same_save holds b f f1 f2 l l' t t' s s1 s2 words out call bundle at Ok le same has asked word others silent says = absurd says
 same_save holds b f f1 f2 l l' t t' s s1 s2 words out call bundle at Usage le same has asked word others silent says = absurd says
 same_save holds b f f1 f2 l l' t t' s s1 s2 words out call bundle at (LoadFailed w) le same has asked word others silent says = absurd says
@@ -204,11 +204,11 @@ same_save holds b f f1 f2 l l' t t' s s1 s2 words out call bundle at (BadForm w)
 pub says_save : (holds holds1 b : Option Held) (f f1 f2 : ℕ) (l l' t t' s s1 s2 : Option Counts) (words : Words) (out : SinkCall) (call : Call) (bundle : Bundle) (at : ℕ) (st : Status) →
     holds1 ≡ holds → f ≤ f1 → NoCountChanges s s1 → HasBundle holds words call bundle → HasAsked holds words bundle (scenario_word call) → out_word call ≡ Some at →
     KeepsOthers holds1 b (word_at words at) → IsSilent out →
-    SaveSays (files_call holds1 b f1 f2 t t' s1 s2) (word_at words at) at st → SaysOf (files_call holds b f f2 l l' s s2) words out call st
+    SaveSays (files_told holds1 b f1 f2 t t' s1 s2) (word_at words at) at st → SaysOf (files_told holds b f f2 l l' s s2) words out call st
 says_save holds holds1 b f f1 f2 l l' t t' s s1 s2 words out call bundle at st e le same has asked word others silent says =
     same_save holds b f f1 f2 l l' t t' s s1 s2 words out call bundle at st le same has asked word
     (subst (λ (h : Option Held). KeepsOthers h b (word_at words at)) e others) silent
-    (subst (λ (h : Option Held). SaveSays (files_call h b f1 f2 t t' s1 s2) (word_at words at) at st) e says)
+    (subst (λ (h : Option Held). SaveSays (files_told h b f1 f2 t t' s1 s2) (word_at words at) at st) e says)
 
 -- a refused save is not Ok
 pub save_not_ok : (files : FilesCall) (name : List ℕ) (at : ℕ) (s : Status) → SaveSays files name at s → s ≢ Ok
@@ -404,7 +404,7 @@ quiet_of_told words err (BadForm w) save told = told
 
 -- a line that is put behind a call that put none
 pub quiet_said : (words : Words) (s : Status) (a b d : Option (List ℕ)) (f h k : ℕ) (line : List ℕ) → ((w : ℕ) → s ≢ SaveFailed w) →
-    IsToldOfSave words (sink_call a b f h) s → IsSaid (sink_call b d h k) line → IsSaid (sink_call a d f k) line
+    IsToldOfSave words (sink_told a b f h) s → IsSaid (sink_told b d h k) line → IsSaid (sink_told a d f k) line
 quiet_said words s a b d f h k line save told said =
-    let quiet = quiet_of_told words (sink_call a b f h) s save told in
-    subst (λ (m : ℕ). IsSaid (sink_call a d m k) line) quiet.count (subst (λ (c : Option (List ℕ)). IsSaid (sink_call c d h k) line) quiet.contents said)
+    let quiet = quiet_of_told words (sink_told a b f h) s save told in
+    subst (λ (m : ℕ). IsSaid (sink_told a d m k) line) quiet.count (subst (λ (c : Option (List ℕ)). IsSaid (sink_told c d h k) line) quiet.contents said)

@@ -1,6 +1,6 @@
 -- When each answer of a call comes, and what it leaves.
 use Rattle.std.specs.Prelude.{◌≡◌, ◌≤◌, ℕ, List, length, ◌⊎◌, ⊤, Option, Some, None}
-use Rattle.tdl_base.specs.declared.limits.TheConstants.{SOURCE_BYTES, SCENARIO_BYTES}
+use Rattle.tdl_base.specs.declared.limits.TheConstants.{SOURCE_BYTES, SCENARIO_BYTES, BUNDLE_BYTES}
 use Rattle.tdl_io.specs.Outside.{Held, Reads, IsLonger, Saves, KeepsOthers, Rose, HasNamedCause, Appends, AppendsPart}
 use Rattle.tdl_plain.specs.declared.form.Form.{Form}
 use Rattle.tdl_plain.specs.PlainSource.{IsPlainSource}
@@ -15,7 +15,6 @@ use Rattle.tdl_top.specs.declared.status.Status.{Status}
 use Rattle.tdl_top.specs.declared.status.Status.TheVariants.{Ok, Usage, LoadFailed, TooLong, WriteFailed, SaveFailed, NoMemory, BadForm}
 use Rattle.tdl_top.specs.declared.words.Call.{Call}
 use Rattle.tdl_top.specs.declared.words.Call.TheVariants.{Compile, Run, Exec}
-use Rattle.tdl_top.specs.declared.inputs.TheConstants.{BUNDLE_BYTES}
 use Rattle.tdl_top.specs.Words.{Words, word_at, call_of, out_word, scenario_word}
 use Rattle.tdl_top.specs.Calls.{FilesCall, SinkCall, IsUnchanged, IsSilent}
 

@@ -1,7 +1,7 @@
 -- What a call that goes well has done, in the words of programs: the file that it saved realises the
 -- program, and what it printed is that file's run.
 use Rattle.std.specs.Prelude.{◌≡◌, ℕ, List, Option}
-use Rattle.tdl_base.specs.declared.limits.TheConstants.{SOURCE_BYTES, SCENARIO_BYTES}
+use Rattle.tdl_base.specs.declared.limits.TheConstants.{SOURCE_BYTES, SCENARIO_BYTES, BUNDLE_BYTES}
 use Rattle.tdl_io.specs.Outside.{Held, Saves, KeepsOthers, Appends}
 use Rattle.tdl_deploy.specs.Named.{one_node}
 use Rattle.tdl_plain.specs.declared.form.Form.{Form}
@@ -18,7 +18,6 @@ use Rattle.tdl_gen.specs.Realises.{Realises}
 use Rattle.tdl_meaning.specs.PlainBundle.{plain_schedule, IsPlainBundle}
 use Rattle.tdl_top.specs.Words.{Words, word_at}
 use Rattle.tdl_top.specs.Calls.{FilesCall, SinkCall}
-use Rattle.tdl_top.specs.declared.inputs.TheConstants.{BUNDLE_BYTES}
 use Rattle.tdl_top.specs.Answers.{IsRead, HasScenario}
 
 -- the file at word 1 was read and is the plain source of this form

@@ -12,16 +12,13 @@ ghost use Rattle.tdl_top.specs.Loads.{LoadSays};
 use crate::Status;
 use crate::words::{FILE_WORD, word};
 use std::alloc::Global;
-use tdl_base::limits::{SCENARIO_BYTES, SOURCE_BYTES};
+use tdl_base::limits::{BUNDLE_BYTES, SCENARIO_BYTES, SOURCE_BYTES};
 use tdl_image::Bundle;
 use tdl_io::{FileAnswer, Files};
 use tdl_make::plain_bundle;
 use tdl_plain::{SourceError, read_plain_source};
 use tdl_read::{PlainError, read_plain};
 use tdl_scen::{PlainScenarioError, Scenario, read_plain_scenario};
-
-/// The greatest length of a bundle, in bytes.
-pub const BUNDLE_BYTES: usize = 67_108_864;
 
 // The file that word `at` names.
 fn load<F: Files>(
@@ -33,7 +30,7 @@ fn load<F: Files>(
 ) -> Result<Vec<u8>, Status>
     ensures read { IfOk result (λ bytes. Reads (F.holds files.old) (word_at (texts words.now) at) bytes.items) }
     ensures within { IfOk result (λ bytes. length bytes.items ≤ limit) }
-    ensures refused { IfErr result (LoadSays (files_call (F.holds files.old) (F.holds files.new) (F.faults files.old) (F.faults files.new) (F.failed_loads files.old) (F.failed_loads files.new) (F.failed_saves files.old) (F.failed_saves files.new)) (word_at (texts words.now) at) limit at) }
+    ensures refused { IfErr result (LoadSays (files_call F.holds F.faults F.failed_loads F.failed_saves files.old files.new) (word_at (texts words.now) at) limit at) }
     ensures held { F.holds files.new ≡ F.holds files.old }
     ensures later { F.faults files.old ≤ F.faults files.new }
     ensures counts { NoCountFalls (F.failed_loads files.old) (F.failed_loads files.new) }
@@ -56,7 +53,7 @@ pub fn read_source<F: Files>(
 ) -> Result<Bundle, Status>
     ensures ok { IfOk result (λ bundle. (call : Call) → IsOfSource call → HasBundle (F.holds files.old) (texts words.now) call bundle) }
     ensures plain { IfOk result (λ bundle. IsPlainBundle bundle) }
-    ensures refused { (call : Call) → IsOfSource call → IfErr result (InputSays (files_call (F.holds files.old) (F.holds files.new) (F.faults files.old) (F.faults files.new) (F.failed_loads files.old) (F.failed_loads files.new) (F.failed_saves files.old) (F.failed_saves files.new)) (texts words.now) call) }
+    ensures refused { (call : Call) → IsOfSource call → IfErr result (InputSays (files_call F.holds F.faults F.failed_loads F.failed_saves files.old files.new) (texts words.now) call) }
     ensures held { F.holds files.new ≡ F.holds files.old }
     ensures later { F.faults files.old ≤ F.faults files.new }
     ensures counts { NoCountFalls (F.failed_loads files.old) (F.failed_loads files.new) }
@@ -78,7 +75,7 @@ pub fn read_bundle<F: Files>(
 ) -> Result<Bundle, Status>
     ensures ok { IfOk result (λ bundle. (w : ℕ) → HasBundle (F.holds files.old) (texts words.now) (Call.Exec w) bundle) }
     ensures plain { IfOk result (λ bundle. IsPlainBundle bundle) }
-    ensures refused { (w : ℕ) → IfErr result (InputSays (files_call (F.holds files.old) (F.holds files.new) (F.faults files.old) (F.faults files.new) (F.failed_loads files.old) (F.failed_loads files.new) (F.failed_saves files.old) (F.failed_saves files.new)) (texts words.now) (Call.Exec w)) }
+    ensures refused { (w : ℕ) → IfErr result (InputSays (files_call F.holds F.faults F.failed_loads F.failed_saves files.old files.new) (texts words.now) (Call.Exec w)) }
     ensures held { F.holds files.new ≡ F.holds files.old }
     ensures later { F.faults files.old ≤ F.faults files.new }
     ensures counts { NoCountFalls (F.failed_loads files.old) (F.failed_loads files.new) }
@@ -120,7 +117,7 @@ pub fn read_scenario<F: Files>(
 ) -> Result<Scenario, Status>
     requires { IsPlainBundle bundle.now }
     ensures ok { IfOk result (HasScenario (F.holds files.old) (texts words.now) bundle.now at) }
-    ensures refused { (call : Call) → scenario_word call ≡ Some at → HasBundle (F.holds files.old) (texts words.now) call bundle.now → IfErr result (InputSays (files_call (F.holds files.old) (F.holds files.new) (F.faults files.old) (F.faults files.new) (F.failed_loads files.old) (F.failed_loads files.new) (F.failed_saves files.old) (F.failed_saves files.new)) (texts words.now) call) }
+    ensures refused { (call : Call) → scenario_word call ≡ Some at → HasBundle (F.holds files.old) (texts words.now) call bundle.now → IfErr result (InputSays (files_call F.holds F.faults F.failed_loads F.failed_saves files.old files.new) (texts words.now) call) }
     ensures held { F.holds files.new ≡ F.holds files.old }
     ensures later { F.faults files.old ≤ F.faults files.new }
     ensures counts { NoCountFalls (F.failed_loads files.old) (F.failed_loads files.new) }

@@ -25,7 +25,7 @@ pub fn print_run<O: Sink>(
     requires times { scenario.now.times ≡ [] }
     requires end { scenario.now.horizon.0 ≤ 1000000 }
     ensures ok { OnOk result (Appends (O.contents out.old) (O.contents out.new) (bundle_text bundle.now scenario.now)) }
-    ensures refused { IfErr result (PrintSays (sink_call (O.contents out.old) (O.contents out.new) (O.faults out.old) (O.faults out.new)) (bundle_text bundle.now scenario.now)) }
+    ensures refused { IfErr result (PrintSays (sink_call O.contents O.faults out.old out.new) (bundle_text bundle.now scenario.now)) }
 {
     let names = bundle_names(alloc, bundle)?;
     let mut machine = HostMachine::begin(alloc, bundle)?;

@@ -26,9 +26,9 @@ fn save<F: Files, E: Sink>(
 ) -> Result<(), Status>
     ensures ok { OnOk result (Saves (F.holds files.new) (word_at (texts words.now) at) bytes.now) }
     ensures others { KeepsOthers (F.holds files.old) (F.holds files.new) (word_at (texts words.now) at) }
-    ensures refused { IfErr result (SaveSays (files_call (F.holds files.old) (F.holds files.new) (F.faults files.old) (F.faults files.new) (F.failed_loads files.old) (F.failed_loads files.new) (F.failed_saves files.old) (F.failed_saves files.new)) (word_at (texts words.now) at) at) }
-    ensures told { IfErr result (IsToldOfSave (texts words.now) (sink_call (E.contents err.old) (E.contents err.new) (E.faults err.old) (E.faults err.new))) }
-    ensures quiet { OnOk result (IsQuiet (sink_call (E.contents err.old) (E.contents err.new) (E.faults err.old) (E.faults err.new))) }
+    ensures refused { IfErr result (SaveSays (files_call F.holds F.faults F.failed_loads F.failed_saves files.old files.new) (word_at (texts words.now) at) at) }
+    ensures told { IfErr result (IsToldOfSave (texts words.now) (sink_call E.contents E.faults err.old err.new)) }
+    ensures quiet { OnOk result (IsQuiet (sink_call E.contents E.faults err.old err.new)) }
 {
     let line = line_with(alloc, b"tdl: cannot save ", word(words, at))?;
     match files.save(word(words, at), bytes) {
@@ -53,9 +53,9 @@ pub fn save_bundle<F: Files, E: Sink>(
     requires { IsSpellable bundle.now }
     ensures ok { OnOk result (Saves (F.holds files.new) (word_at (texts words.now) at) (bundle_bytes bundle.now)) }
     ensures others { KeepsOthers (F.holds files.old) (F.holds files.new) (word_at (texts words.now) at) }
-    ensures refused { IfErr result (SaveSays (files_call (F.holds files.old) (F.holds files.new) (F.faults files.old) (F.faults files.new) (F.failed_loads files.old) (F.failed_loads files.new) (F.failed_saves files.old) (F.failed_saves files.new)) (word_at (texts words.now) at) at) }
-    ensures told { IfErr result (IsToldOfSave (texts words.now) (sink_call (E.contents err.old) (E.contents err.new) (E.faults err.old) (E.faults err.new))) }
-    ensures quiet { OnOk result (IsQuiet (sink_call (E.contents err.old) (E.contents err.new) (E.faults err.old) (E.faults err.new))) }
+    ensures refused { IfErr result (SaveSays (files_call F.holds F.faults F.failed_loads F.failed_saves files.old files.new) (word_at (texts words.now) at) at) }
+    ensures told { IfErr result (IsToldOfSave (texts words.now) (sink_call E.contents E.faults err.old err.new)) }
+    ensures quiet { OnOk result (IsQuiet (sink_call E.contents E.faults err.old err.new)) }
 {
     let bytes = write_bundle(alloc, bundle)?;
     save(alloc, files, words, at, &bytes, err)

@@ -1,5 +1,5 @@
 -- The state of a node: its hosted modules and stubs, each with its tables beside its state.
-use Rattle.std.specs.Prelude.{ℕ, zero, suc, ℤ, pos, nat_lt, List, [], ◌∷◌, ◌++◌, map, Option, Some, None, option_map, unwrap_or, slice_get, slice_index_or, find, if◌then◌else◌, ◌==◌}
+use Rattle.std.specs.Prelude.{ℕ, ℤ, pos, nat_lt, List, [], ◌∷◌, map, Option, Some, None, option_map, unwrap_or, slice_get, slice_index_or, find, if◌then◌else◌, ◌==◌}
 use Rattle.tdl_base.specs.declared.numbers.PortKey.{PortKey}
 use Rattle.tdl_stack.specs.declared.instr.Code.{Code}
 use Rattle.tdl_stack.specs.Running.{Look, number_of}
@@ -73,22 +73,6 @@ Times = ℕ → ℕ → ℕ → ℕ
 -- what each sensor of each module shows at one instant
 abbrev pub Sensed : Type 0
 Sensed = ℕ → ℕ → ℤ
-
--- f of each item with its number, the first being k
-abbrev pub numbered : {A B : Type 0} → ℕ → (ℕ → A → B) → List A → List B
-numbered k f [] = []
-numbered k f (x ∷ xs) = f k x ∷ numbered (suc k) f xs
-
--- the list with f of its item k in that item's place
-abbrev pub changed_at : {A : Type 0} → ℕ → (A → A) → List A → List A
-changed_at k f [] = []
-changed_at zero f (x ∷ xs) = f x ∷ xs
-changed_at (suc k) f (x ∷ xs) = x ∷ changed_at k f xs
-
--- the items of lists, one list after the other
-abbrev pub joined : {A : Type 0} → List (List A) → List A
-joined [] = []
-joined (xs ∷ more) = xs ++ joined more
 
 -- the number of a module or stub
 abbrev pub part_number : Part → ℕ

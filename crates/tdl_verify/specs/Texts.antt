@@ -1,6 +1,7 @@
 -- The run of a bundle under a scenario, and what is printed of it.
 use Rattle.std.specs.Prelude.{ℕ, nat_le, List, [], ◌∷◌, map, option_map, option_and_then, unwrap_or, slice_get, find, ◌==◌, if◌then◌else◌}
 use Rattle.std.specs.List.{flat_map}
+use Rattle.tdl_base.specs.Lists.{joined, numbered}
 use Rattle.tdl_trace.specs.declared.names.Names.{Names}
 use Rattle.tdl_trace.specs.declared.names.ModuleNames.{ModuleNames}
 use Rattle.tdl_trace.specs.declared.names.TaskNames.{TaskNames}
@@ -14,7 +15,7 @@ use Rattle.tdl_image.specs.declared.bundle.KindName.{KindName}
 use Rattle.tdl_image.specs.declared.bundle.Initial.{Initial}
 use Rattle.tdl_image.specs.declared.hosted.Hosted.{Hosted}
 use Rattle.tdl_image.specs.declared.hosted.TaskTable.{TaskTable}
-use Rattle.tdl_verify.specs.States.{Times, numbered, joined}
+use Rattle.tdl_verify.specs.States.{Times}
 use Rattle.tdl_verify.specs.Runs.{Run, machine_run, no_loss, plain_rows}
 
 -- the kind and the name of a sensor

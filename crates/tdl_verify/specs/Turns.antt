@@ -1,5 +1,6 @@
 -- The E-machine of a node at one instant: the due triggers, block by block, until none is due.
 use Rattle.std.specs.Prelude.{ℕ, zero, suc, ◌+◌, ℤ, pos, Bool, false, ◌&&◌, ◌==◌, List, [], ◌∷◌, ◌++◌, Option, Some, None, option_map, option_and_then, unwrap_or, slice_get, replicate, length, if◌then◌else◌}
+use Rattle.tdl_base.specs.Lists.{changed_at, joined, numbered}
 use Rattle.tdl_base.specs.declared.kinds.Kind.{Kind}
 use Rattle.tdl_base.specs.declared.kinds.Kind.TheVariants.{Long}
 use Rattle.tdl_base.specs.Numbers.{narrowed, is_true}
@@ -18,7 +19,7 @@ use Rattle.tdl_image.specs.declared.hosted.Driver.{Driver}
 use Rattle.tdl_image.specs.declared.stub.Stub.{Stub}
 use Rattle.tdl_image.specs.declared.stub.StubTask.{StubTask}
 use Rattle.tdl_image.specs.declared.stub.Receive.{Receive}
-use Rattle.tdl_verify.specs.States.{Slot, TaskNow, Trigger, HostNow, EntryNow, StubNow, Part, Times, Sensed, numbered, changed_at, joined, value_on, part_number}
+use Rattle.tdl_verify.specs.States.{Slot, TaskNow, Trigger, HostNow, EntryNow, StubNow, Part, Times, Sensed, value_on, part_number}
 
 -- ---- which trigger is next
 

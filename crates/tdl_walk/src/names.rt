@@ -7,18 +7,10 @@ use tdl_base::{Kind, Listed, ModuleId, NoMemory, NodeId, Text, Us};
 use tdl_plain::Form;
 use tdl_trace::{ModuleNames, Named, Names, TaskNames};
 
-fn only<T: Drop>(alloc: Global, item: T) -> Result<Listed<T>, NoMemory>
-    ensures { IfOk result (λ list. list ≡ item ∷ []) }
-{
-    let mut list = Listed::new(alloc);
-    list.push(item)?;
-    Ok(list)
-}
-
 fn int_named(alloc: Global, name: &Text) -> Result<Listed<Named>, NoMemory>
     ensures { IfOk result (λ list. list ≡ record { kind = Kind.Int; name = name.now } ∷ []) }
 {
-    only(
+    Listed::only(
         alloc,
         Named {
             kind: Kind::Int,
@@ -41,8 +33,8 @@ fn module_names(alloc: Global, form: &Form) -> Result<ModuleNames, NoMemory>
         name: Text::from_str(alloc, form.module.as_str())?,
         sensors: int_named(alloc, &form.sensor)?,
         actuators: Listed::new(alloc),
-        tasks: only(alloc, task)?,
-        modes: only(alloc, Text::from_str(alloc, form.mode.as_str())?)?,
+        tasks: Listed::only(alloc, task)?,
+        modes: Listed::only(alloc, Text::from_str(alloc, form.mode.as_str())?)?,
     })
 }
 
@@ -51,7 +43,7 @@ pub fn plain_names(alloc: Global, form: &Form) -> Result<Names, NoMemory>
     ensures { IfOk result (λ names. names ≡ names_of (program_of form.now) (one_node (program_of form.now))) }
 {
     Ok(Names {
-        nodes: only(alloc, Text::from_str(alloc, "n1")?)?,
-        modules: only(alloc, module_names(alloc, form)?)?,
+        nodes: Listed::only(alloc, Text::from_str(alloc, "n1")?)?,
+        modules: Listed::only(alloc, module_names(alloc, form)?)?,
     })
 }

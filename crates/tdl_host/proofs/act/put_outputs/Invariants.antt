@@ -1,6 +1,6 @@
 use Rattle.std.proofs.Common.{◌≡◌, ◌++◌, drop}
+use Rattle.tdl_base.specs.Lists.{numbered}
 use Rattle.tdl_trace.specs.Shown.{Shown}
-use Rattle.tdl_verify.specs.States.{numbered}
 use Rattle.tdl_verify.specs.Turns.{output_rows}
 use Rattle.tdl_host.proofs.act.put_outputs.Given as goal
 

@@ -1,5 +1,6 @@
 use Rattle.std.proofs.Common.{◌≡◌, ◌++◌, slice_get, Some, is_some, true, replicate, length, pos, rules}
-use Rattle.tdl_verify.specs.States.{Slot, changed_at}
+use Rattle.tdl_base.specs.Lists.{changed_at}
+use Rattle.tdl_verify.specs.States.{Slot}
 use Rattle.tdl_verify.specs.Turns.{arguments}
 use Rattle.tdl_host.specs.Hosts.{value_at, outputs_of, slot_of, with_job}
 use Rattle.tdl_host.proofs.ActLemmas.{released-on}

@@ -11,9 +11,9 @@ returns-in-Err g c =
     let save : (w : ℕ) → c.in-Err.status ≢ SaveFailed w = search rules in
     record {
       says = says_reported
-          (files_call (g.F.Files.holds c.args.files.now) (g.F.Files.holds c.perform.new.files) (g.F.Files.faults c.args.files.now) (g.F.Files.faults c.perform.new.files) (g.F.Files.failed_loads c.args.files.now) (g.F.Files.failed_loads c.perform.new.files) (g.F.Files.failed_saves c.args.files.now) (g.F.Files.failed_saves c.perform.new.files))
+          (files_call g.F.Files.holds g.F.Files.faults g.F.Files.failed_loads g.F.Files.failed_saves c.args.files.now c.perform.new.files)
           (texts c.args.words.now)
-          (sink_call (g.O.Sink.contents c.args.out.now) (g.O.Sink.contents c.perform.new.out) (g.O.Sink.faults c.args.out.now) (g.O.Sink.faults c.perform.new.out))
+          (sink_call g.O.Sink.contents g.O.Sink.faults c.args.out.now c.perform.new.out)
           (call_of (texts c.args.words.now)) c.in-Err.status c.report.result c.in-Err.ensures.not_ok save c.report.ensures.kept c.report.ensures.usage c.in-Err.ensures.refused;
       line = λ ok. quiet_said (texts c.args.words.now) c.in-Err.status _ _ _ _ _ _ _ save c.in-Err.ensures.told c.report.ensures.said;
       quiet = λ e. absurd (reported_not_ok c.in-Err.status c.report.result c.in-Err.ensures.not_ok c.report.ensures.kept e);

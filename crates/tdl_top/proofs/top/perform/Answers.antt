@@ -10,9 +10,9 @@ pub returns-in-Some-Compile-clause-refused : goal.returns-in-Some-Compile-clause
 returns-in-Some-Compile-clause-refused g c =
     IfErr-weaker c.compile_source.result _ _ (λ status says.
     says_called
-    (files_call (g.F.Files.holds c.args.files.now) (g.F.Files.holds c.compile_source.new.files) (g.F.Files.faults c.args.files.now) (g.F.Files.faults c.compile_source.new.files) (g.F.Files.failed_loads c.args.files.now) (g.F.Files.failed_loads c.compile_source.new.files) (g.F.Files.failed_saves c.args.files.now) (g.F.Files.failed_saves c.compile_source.new.files))
+    (files_call g.F.Files.holds g.F.Files.faults g.F.Files.failed_loads g.F.Files.failed_saves c.args.files.now c.compile_source.new.files)
     (texts c.args.words.now)
-    (sink_call (g.O.Sink.contents c.args.out.now) (g.O.Sink.contents c.args.out.now) (g.O.Sink.faults c.args.out.now) (g.O.Sink.faults c.args.out.now))
+    (sink_call g.O.Sink.contents g.O.Sink.faults c.args.out.now c.args.out.now)
     (call_of (texts c.args.words.now)) (Compile c.in-Some-Compile.place) status (ap Some (sym c.in-Some-Compile.field-0-is) ∙ c.in-Some-Compile.ensures) says)
     (c.compile_source.ensures.refused
-    (sink_call (g.O.Sink.contents c.args.out.now) (g.O.Sink.contents c.args.out.now) (g.O.Sink.faults c.args.out.now) (g.O.Sink.faults c.args.out.now)) refl)
+    (sink_call g.O.Sink.contents g.O.Sink.faults c.args.out.now c.args.out.now) refl)

@@ -1,6 +1,7 @@
 use Rattle.std.proofs.Common.{◌≡◌, ◌≤◌, ℤ, List, ◌∙◌, rules, arith, length, ap, sym, to_z, of_z, w64, FitsSigned}
 use Rattle.std.proofs.lemmas.Int.{to_z-of_z}
-use Rattle.tdl_verify.specs.States.{HostNow, changed_at}
+use Rattle.tdl_base.specs.Lists.{changed_at}
+use Rattle.tdl_verify.specs.States.{HostNow}
 use Rattle.tdl_host.proofs.ListSteps.{changed_at-put, changed_at-past}
 use Rattle.tdl_host.specs.contracts.state.HostState.{the_view}
 use Rattle.tdl_host.proofs.state.HostState.update.Goals as goal
