@@ -2,3 +2,9 @@ pub mod Division
 pub mod LowBits
 pub mod NumberLaws
 pub mod SensedLemmas
+pub mod Tests
+pub mod Finding
+pub mod Among
+pub mod NumberedLists
+pub mod ListPlaces
+pub mod SideBySide

@@ -1,3 +1,4 @@
+-- What a body does to its cells.
 use Rattle.std.specs.Prelude.{ℕ, zero, suc, ℤ, pos, List, [], ◌∷◌, if◌then◌else◌, slice_index_or, slice_set, Option, Some, None}
 use Rattle.tdl_base.specs.declared.kinds.Kind.{Kind}
 use Rattle.tdl_base.specs.declared.kinds.Kind.TheVariants.{Long}

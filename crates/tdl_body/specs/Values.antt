@@ -1,3 +1,4 @@
+-- The number of an expression.
 use Rattle.std.specs.Prelude.{ℕ, ℤ, Bool, true, Option, Some, None}
 use Rattle.tdl_base.specs.declared.numbers.PortKey.{PortKey}
 use Rattle.tdl_base.specs.declared.numbers.Place.{Place}

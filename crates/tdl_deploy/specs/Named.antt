@@ -1,3 +1,4 @@
+-- The names of a program and its placement.
 use Rattle.std.specs.Prelude.{ℕ, suc, List, [], ◌∷◌, map, None, codes, if◌then◌else◌}
 use Rattle.tdl_base.specs.Lists.{numbered}
 use Rattle.tdl_mode.specs.declared.program.Program.{Program}
@@ -10,7 +11,7 @@ use Rattle.tdl_trace.specs.declared.names.TaskNames.{TaskNames}
 use Rattle.tdl_trace.specs.declared.names.Named.{Named}
 use Rattle.tdl_deploy.specs.declared.placement.Placement.{Placement}
 use Rattle.tdl_deploy.specs.declared.placement.PlacedNode.{PlacedNode}
-use Rattle.tdl_deploy.specs.Placed.{is_among}
+use Rattle.tdl_mode.specs.Imports.{is_among}
 
 -- all modules on the one node `n1`, and no bus
 abbrev pub one_node : Program → Placement

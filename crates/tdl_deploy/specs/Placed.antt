@@ -1,15 +1,13 @@
-use Rattle.std.specs.Prelude.{ℕ, ◌+◌, ◌*◌, ◌==◌, Bool, not, ◌&&◌, ◌||◌, List, [], option_map, unwrap_or, slice_get, map, sum}
+-- What a placement says: which node hosts, imports and sees a module, and what its frames take.
+use Rattle.std.specs.Prelude.{ℕ, ◌+◌, ◌*◌, Bool, not, ◌&&◌, ◌||◌, List, [], option_map, unwrap_or, slice_get, map, sum}
 use Rattle.std.specs.List.{list_any}
 use Rattle.tdl_base.specs.declared.numbers.ModuleId.{ModuleId}
 use Rattle.tdl_base.specs.Numbers.{width_of}
 use Rattle.tdl_mode.specs.declared.program.Program.{Program}
 use Rattle.tdl_mode.specs.declared.program.Task.{Task}
+use Rattle.tdl_mode.specs.Imports.{is_among, imports_of}
 use Rattle.tdl_deploy.specs.declared.placement.Placement.{Placement}
 use Rattle.tdl_deploy.specs.declared.placement.PlacedNode.{PlacedNode}
-
--- m is one of these modules
-abbrev pub is_among : ℕ → List ModuleId → Bool
-is_among m ids = list_any (λ i. i.0 == m) ids
 
 -- the modules that a node hosts
 abbrev pub hosted_on : Placement → ℕ → List ModuleId
@@ -18,10 +16,6 @@ hosted_on placement node = unwrap_or (option_map (λ n. n.modules) (slice_get pl
 -- the node hosts module m
 abbrev pub hosts : Placement → ℕ → ℕ → Bool
 hosts placement node m = is_among m (hosted_on placement node)
-
--- the modules that module m imports directly
-abbrev pub imports_of : Program → ℕ → List ModuleId
-imports_of program m = unwrap_or (option_map (λ d. d.imports) (slice_get program.modules m)) []
 
 -- some module that the node hosts imports module m directly
 abbrev pub imports : Program → Placement → ℕ → ℕ → Bool

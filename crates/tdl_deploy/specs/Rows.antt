@@ -1,3 +1,4 @@
+-- The rows that each node shows of the one logical execution.
 use Rattle.std.specs.Prelude.{ℕ, zero, suc, ℤ, ◌==◌, List, [], ◌∷◌, ◌++◌, map, Option, Some, None, option_map, if◌then◌else◌}
 use Rattle.tdl_base.specs.Lists.{joined, numbered}
 use Rattle.tdl_body.specs.Values.{Look}
@@ -14,42 +15,63 @@ abbrev pub listed : {A : Type 0} → Option A → List A
 listed None = []
 listed (Some a) = a ∷ []
 
--- phase 1: a row for each output of each task that ended at x and that the node sees, by module, task and output
+-- ---- phase 1: outputs of tasks that ended
+
+-- a row for each output of task t of module m
+abbrev pub committed_outputs : ℕ → ℕ → ℕ → ℕ → TaskState → List Shown
+committed_outputs x node m t u = numbered 0 (λ o v. Shown.Committed x node m t o v) u.outputs
+
+-- the rows of task t of module m, where it ended at x and the node sees it
+abbrev pub task_port_rows : Program → Placement → ℕ → ℕ → ℕ → ModuleState → ℕ → TaskState → List Shown
+task_port_rows program placement node x m s t u =
+    if has_ended s x u then (if sees program placement node m u.text
+    then committed_outputs x node m t (task_after s x u) else []) else []
+
+-- the rows of all tasks of module m, by task and output
+abbrev pub module_port_rows : Program → Placement → ℕ → ℕ → ℕ → ModuleState → List Shown
+module_port_rows program placement node x m s =
+    joined (numbered 0 (task_port_rows program placement node x m s) s.tasks)
+
+-- the rows of all modules, by module, task and output
 abbrev pub port_rows : Program → Placement → ℕ → ℕ → State → List Shown
-port_rows program placement node x state = joined (numbered 0 module_rows state)
-  where
-    output_rows : ℕ → ℕ → TaskState → List Shown
-    output_rows m t u = numbered 0 (λ o v. Shown.Committed x node m t o v) u.outputs
+port_rows program placement node x state = joined (numbered 0 (module_port_rows program placement node x) state)
 
-    task_rows : ℕ → ModuleState → ℕ → TaskState → List Shown
-    task_rows m s t u =
-        if has_ended s x u then (if sees program placement node m u.text then output_rows m t (task_after s x u) else []) else []
+-- ---- phase 2: actuators that were updated
 
-    module_rows : ℕ → ModuleState → List Shown
-    module_rows m s = joined (numbered 0 (task_rows m s) s.tasks)
+-- the row of actuator a of module m, where it was updated at x
+abbrev pub actuator_row : ℕ → ℕ → ℕ → ModuleState → Look → ℕ → ℤ → List Shown
+actuator_row x node m s look a old = listed (option_map (λ v. Shown.Updated x node m a v) (update_value s x look a))
 
--- phase 2: a row for each update that was taken at x by a module of the node, by module and actuator; `state` is that after phase 1
+-- the rows of all actuators of module m, by actuator
+abbrev pub module_act_rows : ℕ → ℕ → ℕ → ModuleState → Look → List Shown
+module_act_rows x node m s look = joined (numbered 0 (actuator_row x node m s look) s.actuators)
+
+-- the rows of all modules of the node, by module and actuator; `state` is that after phase 1
 abbrev pub act_rows : Placement → ℕ → ℕ → Sensed → State → List Shown
-act_rows placement node x sensed state = joined (numbered 0 module_rows state)
+act_rows placement node x sensed state =
+    joined (numbered 0 of_module state)
   where
-    actuator_row : ℕ → ModuleState → Look → ℕ → ℤ → List Shown
-    actuator_row m s look a old = listed (option_map (λ v. Shown.Updated x node m a v) (update_value s x look a))
+    of_module : ℕ → ModuleState → List Shown
+    of_module m s = if hosts placement node m then module_act_rows x node m s (look_in state sensed m s) else []
 
-    module_rows : ℕ → ModuleState → List Shown
-    module_rows m s =
-        if hosts placement node m then joined (numbered 0 (actuator_row m s (look_in state sensed m s)) s.actuators) else []
+-- ---- phase 3: modes that changed
 
--- phase 3: a row for each module of the node whose mode changed, by module
+-- the row of module m, where its mode changed
+abbrev pub module_mode_rows : ℕ → ℕ → ℕ → ModuleState → ModuleState → List Shown
+module_mode_rows x node m old new = if old.mode == new.mode then [] else Shown.Entered x node m new.mode ∷ []
+
+-- the rows of the modules of the node from number m on, in order
+abbrev pub mode_rows_from : Placement → ℕ → ℕ → ℕ → State → State → List Shown
+mode_rows_from placement node x m (old ∷ olds) (new ∷ news) =
+    (if hosts placement node m then module_mode_rows x node m old new else [])
+    ++ mode_rows_from placement node x (suc m) olds news
+mode_rows_from placement node x m olds news = []
+
+-- the rows of all modules of the node, by module
 abbrev pub mode_rows : Placement → ℕ → ℕ → State → State → List Shown
-mode_rows placement node x before after = from_number 0 before after
-  where
-    mode_row : ℕ → ModuleState → ModuleState → List Shown
-    mode_row m old new =
-        if hosts placement node m then (if old.mode == new.mode then [] else Shown.Entered x node m new.mode ∷ []) else []
+mode_rows placement node x before after = mode_rows_from placement node x 0 before after
 
-    from_number : ℕ → State → State → List Shown
-    from_number m (old ∷ olds) (new ∷ news) = mode_row m old new ++ from_number (suc m) olds news
-    from_number m olds news = []
+-- ---- the rows of an instant, and of a run
 
 -- what a node sees of instant x, above 0, from the state before it
 abbrev pub node_rows : Program → Placement → ℕ → Sensed → State → ℕ → List Shown

@@ -52,7 +52,8 @@ same_in_mode a b = a.mode == b.mode && a.number == b.number
 
 -- these activities of each mode, each once and in order of the source
 abbrev pub activities : (Mode → List ℕ) → Module → List InMode
-activities acts m = joined (numbered 0 (λ k mode. map (λ a. record { mode = k; number = a }) (ascending (acts mode))) m.modes)
+activities acts m =
+    joined (numbered 0 (λ k mode. map (λ a. record { mode = k; number = a }) (ascending (acts mode))) m.modes)
 
 -- the task activities: a call for each
 abbrev pub call_names : Module → List InMode
@@ -72,7 +73,8 @@ guard_names m =
 
 -- the invocations: a release for each
 abbrev pub release_names : Module → List InMode
-release_names m = joined (numbered 0 (λ k mode. numbered 1 (λ n i. record { mode = k; number = n }) mode.invocations) m.modes)
+release_names m =
+    joined (numbered 0 (λ k mode. numbered 1 (λ n i. record { mode = k; number = n }) mode.invocations) m.modes)
 
 -- the number of a call, driver, guard or release
 abbrev pub number_in : List InMode → ℕ → ℕ → ℕ

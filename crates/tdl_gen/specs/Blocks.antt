@@ -14,7 +14,7 @@ use Rattle.tdl_mode.specs.declared.program.Switch.{Switch}
 use Rattle.tdl_mode.specs.Offsets.{next_offset}
 use Rattle.tdl_gen.specs.BlockNames.{BlockName, block_names, block_number, driver_names, guard_names, release_names, number_in}
 
--- the instructions, behind an `if` to the instruction after them where the activity is guarded; the first has this index
+-- the instructions, behind an `if` to the instruction after them where the activity is guarded; the first at this index
 abbrev pub guarded : Module → ℕ → ℕ → Option Expr → ℕ → List EInstr → List EInstr
 guarded m k act None index code = code
 guarded m k act (Some guard) index code = e.If (number_in (guard_names m) k act) (suc index + length code) ∷ code
@@ -26,11 +26,14 @@ laid code index (a ∷ more) = code index a ++ laid code (index + length (code i
 
 -- the tasks with an invocation that ends at o, by task
 abbrev pub ending : Module → Mode → ℕ → List ℕ
-ending m mode o = joined (numbered 0 (λ t task. if list_any (λ i. i.task.0 == t && i.e.0 == o) mode.invocations then t ∷ [] else []) m.tasks)
+ending m mode o =
+    joined (numbered 0 (λ t task.
+    if list_any (λ i. i.task.0 == t && i.e.0 == o) mode.invocations then t ∷ [] else []) m.tasks)
 
 -- the updates at o, by actuator
 abbrev pub updates_at : Module → Mode → ℕ → List Update
-updates_at m mode o = joined (numbered 0 (λ a actuator. filter (λ u. u.actuator == a && u.at.0 == o) mode.updates) m.actuators)
+updates_at m mode o =
+    joined (numbered 0 (λ a actuator. filter (λ u. u.actuator == a && u.at.0 == o) mode.updates) m.actuators)
 
 -- the switches at o, in order of the source
 abbrev pub switches_at : Mode → ℕ → List Switch
@@ -43,7 +46,8 @@ pub record Numbered : Type 0 where
 
 -- the invocations that start at o, by number
 abbrev pub starting : Mode → ℕ → List Numbered
-starting mode o = filter (λ n. n.invocation.s.0 == o) (numbered 1 (λ n i. record { number = n; invocation = i }) mode.invocations)
+starting mode o =
+    filter (λ n. n.invocation.s.0 == o) (numbered 1 (λ n i. record { number = n; invocation = i }) mode.invocations)
 
 -- the code of an update
 abbrev pub update_code : Module → ℕ → ℕ → Update → List EInstr
@@ -52,7 +56,8 @@ update_code m k index u = guarded m k u.act u.guard index (e.Call (number_in (dr
 -- the code of a switch
 abbrev pub switch_code : Module → ℕ → ℕ → Switch → List EInstr
 switch_code m k index s =
-    guarded m k s.act s.guard index (e.Mode s.target.0 ∷ e.Future 0 (block_number m (BlockName.Starts s.target.0 0)) ∷ e.Return ∷ [])
+    guarded m k s.act s.guard index
+    (e.Mode s.target.0 ∷ e.Future 0 (block_number m (BlockName.Starts s.target.0 0)) ∷ e.Return ∷ [])
 
 -- the code of a start
 abbrev pub start_code : Module → ℕ → ℕ → Numbered → List EInstr
@@ -76,7 +81,8 @@ mode_block m (Some mode) (BlockName.Ends k o) = record {
 }
 mode_block m (Some mode) (BlockName.Updates k o) = record {
   phase = 2;
-  code = laid (update_code m k) 0 (updates_at m mode o) ++ e.Future 0 (block_number m (BlockName.Switches k o)) ∷ e.Return ∷ [];
+  code = laid (update_code m k) 0 (updates_at m mode o)
+      ++ e.Future 0 (block_number m (BlockName.Switches k o)) ∷ e.Return ∷ [];
 }
 mode_block m (Some mode) (BlockName.Switches k o) = record {
   phase = 3;

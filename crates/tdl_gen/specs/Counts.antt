@@ -25,7 +25,8 @@ length_of m name = length (block_of m name).code
 
 -- the blocks of phases 1, 2 and 3 at one offset, together
 abbrev pub before_starts : Module → ℕ → ℕ → ℕ
-before_starts m k o = length_of m (BlockName.Ends k o) + length_of m (BlockName.Updates k o) + length_of m (BlockName.Switches k o)
+before_starts m k o =
+    length_of m (BlockName.Ends k o) + length_of m (BlockName.Updates k o) + length_of m (BlockName.Switches k o)
 
 -- some number for each offset of each mode that passes
 abbrev pub at_offsets : (Mode → ℕ → Bool) → (ℕ → ℕ → ℕ) → Module → List ℕ
@@ -42,7 +43,8 @@ has_starts mode o = nat_lt o mode.period.0
 -- a hosted module's part: its longest offset, and its longest block of phase 4
 abbrev pub module_count : Module → ℕ
 module_count m =
-    greatest (at_offsets has_ends (before_starts m) m) + greatest (at_offsets has_starts (λ k o. length_of m (BlockName.Starts k o)) m)
+    greatest (at_offsets has_ends (before_starts m) m)
+    + greatest (at_offsets has_starts (λ k o. length_of m (BlockName.Starts k o)) m)
 
 -- a stub's part: two instructions for each entry of the mode that has the most
 abbrev pub stub_count : Stub → ℕ

@@ -53,13 +53,15 @@ abbrev pub rows_of : Run → List Shown
 rows_of r = filter is_plain r.rows
 
 -- the run of a bundle has no trap and shows exactly the logical rows
-pub record IsRunOf (b : Bundle) (p : Program) (pl : Placement) (horizon : ℕ) (course : Course) (times : Times) : Type 0 where
+pub record IsRunOf (b : Bundle) (p : Program) (pl : Placement) (horizon : ℕ) (course : Course) (times : Times)
+    : Type 0 where
   pub alive : IsAlive (machine_run b horizon course times no_loss).now
   pub rows : rows_of (machine_run b horizon course times no_loss) ≡ logical_rows p pl course horizon
 
 -- the same under every course and all times within the worst cases, up to every horizon
 abbrev pub HasMeaning : Bundle → Program → Placement → Type 0
-HasMeaning b p pl = (horizon : ℕ) (course : Course) (times : Times) → IsWithinWorst p times → IsRunOf b p pl horizon course times
+HasMeaning b p pl =
+    (horizon : ℕ) (course : Course) (times : Times) → IsWithinWorst p times → IsRunOf b p pl horizon course times
 
 -- the bundle realises the program: its tables, its counts and its meaning
 pub record Realises (b : Bundle) (p : Program) (pl : Placement) (s : Schedule) : Type 0 where

@@ -1,5 +1,6 @@
 -- The images of a program: its tables on each node.
-use Rattle.std.specs.Prelude.{ℕ, ◌+◌, ◌-◌, Bool, true, false, not, ◌==◌, ◌&&◌, ◌||◌, nat_lt, List, [], ◌∷◌, ◌++◌, map, filter, flat_map, find, Option, Some, None, option_map, unwrap_or, slice_get, if◌then◌else◌}
+use Rattle.std.specs.Prelude.{ℕ, ◌+◌, ◌-◌, Bool, not, ◌==◌, ◌&&◌, ◌||◌, nat_lt, List, [], ◌∷◌, map, filter, find, Option, option_map, option_and_then, unwrap_or, slice_get, if◌then◌else◌}
+use Rattle.std.specs.Option.{option_or}
 use Rattle.tdl_base.specs.Lists.{joined, numbered}
 use Rattle.tdl_body.specs.declared.tree.Expr.{Expr}
 use Rattle.tdl_mode.specs.declared.program.Program.{Program}
@@ -10,9 +11,8 @@ use Rattle.tdl_mode.specs.declared.program.PortDef.{PortDef}
 use Rattle.tdl_deploy.specs.declared.placement.Placement.{Placement}
 use Rattle.tdl_deploy.specs.declared.schedule.Schedule.{Schedule}
 use Rattle.tdl_deploy.specs.declared.schedule.Window.{Window}
-use Rattle.tdl_deploy.specs.declared.schedule.Resource.{Resource}
-use Rattle.tdl_deploy.specs.declared.schedule.Resource.TheVariants.{Cpu, Bus}
 use Rattle.tdl_deploy.specs.Placed.{hosts, imports, is_remote}
+use Rattle.tdl_deploy.specs.Passes.{is_bus}
 use Rattle.tdl_stack.specs.declared.instr.Code.{Code}
 use Rattle.tdl_ecode.specs.declared.instr.EInstr.TheVariants as e
 use Rattle.tdl_ecode.specs.declared.instr.Block.{Block}
@@ -27,6 +27,7 @@ use Rattle.tdl_image.specs.declared.hosted.ImageWindow.{ImageWindow}
 use Rattle.tdl_image.specs.declared.stub.Stub.{Stub}
 use Rattle.tdl_image.specs.declared.stub.StubTask.{StubTask}
 use Rattle.tdl_image.specs.declared.stub.Receive.{Receive}
+use Rattle.tdl_verify.specs.Turns.{no_code}
 use Rattle.tdl_lower.specs.Templates.{expr_code, body_code}
 use Rattle.tdl_gen.specs.BlockNames.{InMode, BlockName, block_number, call_names, driver_names, guard_names, release_names, number_in}
 use Rattle.tdl_gen.specs.Blocks.{blocks_of}
@@ -58,56 +59,59 @@ task_table t = record {
 abbrev pub mode_at : Module → ℕ → Option Mode
 mode_at m k = slice_get m.modes k
 
--- an item or none, as a list
-abbrev pub listed : {A : Type 0} → Option A → List A
-listed None = []
-listed (Some a) = a ∷ []
+-- what is made of the first item of a mode that passes, where there is one
+abbrev pub in_mode : {A B : Type 0} → Module → ℕ → (Mode → List A) → (A → Bool) → (A → B) → Option B
+in_mode m k items passes make = option_and_then (λ mode. option_map make (find passes (items mode))) (mode_at m k)
 
--- the first item of a mode that passes, and what is made of it
-abbrev pub in_mode : {A B : Type 0} → Module → ℕ → (Mode → List A) → (A → Bool) → (A → B) → List B
-in_mode m k items passes make = unwrap_or (option_map (λ mode. listed (option_map make (find passes (items mode)))) (mode_at m k)) []
-
--- the call of a task activity
-abbrev pub call_of : Module → InMode → List CallEntry
+-- the call of a task activity; an empty one where there is no such activity
+abbrev pub call_of : Module → InMode → CallEntry
 call_of m name =
-    in_mode m name.mode (λ mode. mode.invocations) (λ i. i.act == name.number) (λ i. record { task = i.task.0; args = map coded i.args })
+    unwrap_or (in_mode m name.mode (λ mode. mode.invocations) (λ i. i.act == name.number)
+    (λ i. record { task = i.task.0; args = map coded i.args }))
+    (record { task = 0; args = [] })
 
--- the driver of an update activity
-abbrev pub driver_of : Module → InMode → List Driver
+-- the driver of an update activity; an empty one where there is no such activity
+abbrev pub driver_of : Module → InMode → Driver
 driver_of m name =
-    in_mode m name.mode (λ mode. mode.updates) (λ u. u.act == name.number) (λ u. record { actuator = u.actuator; value = coded u.value })
+    unwrap_or (in_mode m name.mode (λ mode. mode.updates) (λ u. u.act == name.number)
+    (λ u. record { actuator = u.actuator; value = coded u.value }))
+    (record { actuator = 0; value = no_code })
 
--- the guards of a mode's activities of this number
-abbrev pub guards_in : Mode → ℕ → List Code
-guards_in mode a =
-    flat_map (λ i. map coded (listed i.guard)) (filter (λ i. i.act == a) mode.invocations)
-    ++ flat_map (λ u. map coded (listed u.guard)) (filter (λ u. u.act == a) mode.updates)
-    ++ flat_map (λ s. map coded (listed s.guard)) (filter (λ s. s.act == a) mode.switches)
+-- the guard of an activity of a mode, as its first entry has it
+abbrev pub guard_in : Mode → ℕ → Option Expr
+guard_in mode a =
+    option_or (option_and_then (λ i. i.guard) (find (λ i. i.act == a) mode.invocations))
+    (option_or (option_and_then (λ u. u.guard) (find (λ u. u.act == a) mode.updates))
+    (option_and_then (λ s. s.guard) (find (λ s. s.act == a) mode.switches)))
 
--- the first of some items, as a list
-abbrev pub first_of : {A : Type 0} → List A → List A
-first_of [] = []
-first_of (a ∷ as') = a ∷ []
+-- the code of the guard of an activity; no code where there is none
+abbrev pub guard_of : Module → InMode → Code
+guard_of m name =
+    unwrap_or (option_map coded (option_and_then (λ mode. guard_in mode name.number) (mode_at m name.mode))) no_code
 
--- the guard of an activity
-abbrev pub guard_of : Module → InMode → List Code
-guard_of m name = unwrap_or (option_map (λ mode. first_of (guards_in mode name.number)) (mode_at m name.mode)) []
+-- the activity of an invocation; 0 where there is no such invocation
+abbrev pub act_of : Module → InMode → ℕ
+act_of m name =
+    unwrap_or (option_map (λ i. i.act)
+    (option_and_then (λ mode. slice_get mode.invocations (name.number - 1)) (mode_at m name.mode))) 0
 
--- the release of an invocation
-abbrev pub release_of : Module → InMode → List ReleaseEntry
-release_of m name =
-    unwrap_or (option_map
-    (λ mode. map (λ i. record { mode = name.mode; invocation = name.number; call = number_in (call_names m) name.mode i.act })
-    (listed (slice_get mode.invocations (name.number - 1)))) (mode_at m name.mode)) []
-
--- a resource is the bus
-abbrev pub is_bus : Resource → Bool
-is_bus Cpu = false
-is_bus Bus = true
+-- the release of an invocation, with the call of its activity
+abbrev pub release_of : Module → InMode → ReleaseEntry
+release_of m name = record {
+  mode = name.mode;
+  invocation = name.number;
+  call = number_in (call_names m) name.mode (act_of m name);
+}
 
 -- a window of the schedule as one of an image
 abbrev pub image_window : Window → ImageWindow
-image_window w = record { bus = is_bus w.resource; mode = w.mode.0; invocation = w.invocation; offset = w.offset; length = w.length }
+image_window w = record {
+  bus = is_bus w.resource;
+  mode = w.mode.0;
+  invocation = w.invocation;
+  offset = w.offset;
+  length = w.length;
+}
 
 -- one window comes before another: by mode, invocation, resource and offset
 abbrev pub is_before : ImageWindow → ImageWindow → Bool
@@ -138,10 +142,10 @@ hosted_of s k m = record {
   actuators = initials m.actuators;
   tasks = map task_table m.tasks;
   modes = map (λ mode. mode.name) m.modes;
-  calls = flat_map (call_of m) (call_names m);
-  releases = flat_map (release_of m) (release_names m);
-  guards = flat_map (guard_of m) (guard_names m);
-  drivers = flat_map (driver_of m) (driver_names m);
+  calls = map (call_of m) (call_names m);
+  releases = map (release_of m) (release_names m);
+  guards = map (guard_of m) (guard_names m);
+  drivers = map (driver_of m) (driver_names m);
   windows = windows_of s k;
   blocks = blocks_of m;
   entry = block_number m BlockName.Boot;
@@ -149,7 +153,9 @@ hosted_of s k m = record {
 
 -- the public tasks of a module, with their numbers
 abbrev pub stub_tasks : Module → List StubTask
-stub_tasks m = joined (numbered 0 (λ t task. if task.public then record { number = t; name = task.name; outputs = initials task.outputs } ∷ [] else []) m.tasks)
+stub_tasks m =
+    joined (numbered 0 (λ t task.
+    if task.public then record { number = t; name = task.name; outputs = initials task.outputs } ∷ [] else []) m.tasks)
 
 -- where the bus window of an invocation ends, in its cycle
 abbrev pub bus_end : Schedule → ℕ → ℕ → ℕ → ℕ
@@ -168,7 +174,8 @@ receives_in s m t k mode =
 abbrev pub receives : Program → Placement → Schedule → ℕ → Module → List Receive
 receives p pl s k m =
     numbered 0 (λ r (e : Receive). record e { block = r })
-    (joined (numbered 0 (λ t task. if is_remote p pl k task then joined (numbered 0 (receives_in s k t) m.modes) else []) m.tasks))
+    (joined (numbered 0 (λ t task.
+    if is_remote p pl k task then joined (numbered 0 (receives_in s k t) m.modes) else []) m.tasks))
 
 -- the block of entry r
 abbrev pub take_block : ℕ → Block
@@ -191,4 +198,5 @@ hosted_on p pl s node = joined (numbered 0 (λ k m. if hosts pl node k then host
 -- the stubs of a node: of the modules that its own import and that it does not host
 abbrev pub stubs_on : Program → Placement → Schedule → ℕ → List Stub
 stubs_on p pl s node =
-    joined (numbered 0 (λ k m. if not (hosts pl node k) && imports p pl node k then stub_of p pl s k m ∷ [] else []) p.modules)
+    joined (numbered 0 (λ k m.
+    if not (hosts pl node k) && imports p pl node k then stub_of p pl s k m ∷ [] else []) p.modules)

@@ -1,1 +1,3 @@
 pub mod Equations
+pub mod ExprCodes
+pub mod BodyCodes

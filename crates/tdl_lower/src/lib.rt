@@ -1,2 +1,4 @@
 //! Bodies and expressions as stack code: the templates are in specs/.
 #![tactic(auto)]
+
+pub mod laws;

@@ -1,1 +1,5 @@
 pub mod Spelled
+pub mod PlainAccepted
+pub mod Compiled
+pub mod PlainRealises
+pub mod PlainText

@@ -1,35 +1,29 @@
 -- The bundle of a plain program can be spelled.
-use Rattle.std.proofs.Common.{◌≡◌, ◌≤◌, ℕ, pos, ◌&&◌, Bool, true, false, nat_le, List, [], ◌∷◌, length, All, IsTrue, not, refl, sym, arith, true≢false}
+use Rattle.std.proofs.Common.{◌≡◌, ◌≤◌, ℕ, pos, true, nat_le, List, [], ◌∷◌, length, All, IsTrue, not, refl, arith}
 use Rattle.std.proofs.lemmas.Bool.Decides.{nat_tests}
 use Rattle.std.proofs.lemmas.List.Elements.{All-nil, All-cons, All-from_recursion}
 use Rattle.std.proofs.lemmas.Int.{ints}
 use Rattle.std.specs.List.Sorted.{IsStrictlyIncreasing}
 use Rattle.tdl_base.specs.Letters.{is_word}
+use Rattle.std.proofs.lemmas.Bool.{and_parts}
 use Rattle.tdl_base.specs.declared.kinds.Kind.TheVariants.{Int}
 use Rattle.tdl_image.specs.Identifiers.{IsIdentifier}
 use Rattle.tdl_image.specs.Spellable as sp
 use Rattle.tdl_plain.specs.declared.form.Form.{Form}
 use Rattle.tdl_plain.specs.PlainSource.{IsPlainForm, is_name, is_reserved}
 use Rattle.tdl_plain.specs.Tokens.{is_identifier}
-use Rattle.tdl_meaning.specs.PlainBundle.{plain_bundle, plain_hosted, plain_table, plain_blocks}
+use Rattle.tdl_make.specs.PlainBundle.{plain_bundle, plain_hosted, plain_table, plain_blocks}
 
-and_left : (a b : Bool) → (a && b) ≡ true → a ≡ true
-and_left true b h = refl
-and_left false b h = h
-
+-- a number that tests as at most b
 at_most : (a b : ℕ) → nat_le a b ≡ true → a ≤ b
 at_most a b h = grind (arith, nat_tests)
 
-and_right : (a b : Bool) → (a && b) ≡ true → b ≡ true
-and_right true b h = h
-and_right false b h = absurd (true≢false (sym h))
-
 -- a name is an identifier
 identifier : (t : List ℕ) → IsTrue (is_name t) → IsIdentifier t
-identifier t h = record {
-  word = and_left (is_word t) (nat_le (length t) 64) (and_left (is_identifier t) (not (is_reserved t)) h);
-  short = at_most (length t) 64 (and_right (is_word t) (nat_le (length t) 64) (and_left (is_identifier t) (not (is_reserved t)) h));
-}
+identifier t h =
+    let parts : (is_word t ≡ true) × (nat_le (length t) 64 ≡ true) =
+    and_parts (is_word t) (nat_le (length t) 64) (and_parts (is_identifier t) (not (is_reserved t)) h).0 in
+    record { word = parts.0; short = at_most (length t) 64 parts.1 }
 
 -- a list of one item
 one : {X : Type 0} (P : X → Type 0) (x : X) → P x → All P (x ∷ [])
@@ -39,13 +33,19 @@ one P x p = All-cons P x [] p (All-nil P)
 alone : (n : ℕ) → IsStrictlyIncreasing (n ∷ [])
 alone n k lt = absurd (omega (arith, lt))
 
+-- an empty list increases
 none : IsStrictlyIncreasing []
 none k lt = absurd (omega (arith, lt))
 
 module _ (f : Form) (lawful : IsPlainForm f) where
+  -- the initial number can be spelled
   output : sp.IsSpellableInitial (record { kind = Int; name = f.output; initial = pos f.initial })
-  output = record { name = identifier f.output lawful.output_name; initial = (omega (arith, ints), omega (arith, ints, lawful.initial_to)) }
+  output = record {
+    name = identifier f.output lawful.output_name;
+    initial = (omega (arith, ints), omega (arith, ints, lawful.initial_to));
+  }
 
+  -- the task's table can be spelled
   table : sp.IsSpellableTask (plain_table f)
   table = record {
     name = identifier f.task lawful.task_name;
@@ -57,6 +57,7 @@ module _ (f : Form) (lawful : IsPlainForm f) where
     body = record { count = omega arith };
   }
 
+  -- the five blocks can be spelled
   blocks : All sp.IsSpellableBlock (plain_blocks f)
   blocks = All-from_recursion sp.IsSpellableBlock (plain_blocks f) (
     record { at_least = omega arith; at_most = omega arith; count = omega arith },
@@ -72,6 +73,7 @@ module _ (f : Form) (lawful : IsPlainForm f) where
     ),
   )
 
+  -- the module can be spelled
   host : sp.IsSpellableHosted (plain_hosted f)
   host = record {
     name = identifier f.module lawful.module_name;
@@ -89,12 +91,16 @@ module _ (f : Form) (lawful : IsPlainForm f) where
     actuators = All-nil sp.IsSpellableInitial;
     tasks = one sp.IsSpellableTask _ table;
     modes = one IsIdentifier f.mode (identifier f.mode lawful.mode_name);
-    calls = one sp.IsSpellableCall _ (record { count = omega arith; args = one sp.IsSpellableCode _ (record { count = omega arith }) });
+    calls = one sp.IsSpellableCall _ (record {
+      count = omega arith;
+      args = one sp.IsSpellableCode _ (record { count = omega arith });
+    });
     guards = All-nil sp.IsSpellableCode;
     drivers = All-nil sp.IsSpellableDriver;
     blocks = blocks;
   }
 
+  -- the one image can be spelled
   image : All sp.IsSpellableImage (plain_bundle f).images
   image = one sp.IsSpellableImage _ (record {
     node = record { word = refl; short = omega arith };
@@ -106,5 +112,6 @@ module _ (f : Form) (lawful : IsPlainForm f) where
     stub_order = none;
   })
 
+  -- the bundle can be spelled
   pub spellable : sp.IsSpellable (plain_bundle f)
   spellable = record { at_least = omega arith; at_most = omega arith; images = image }

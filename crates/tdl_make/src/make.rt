@@ -1,5 +1,5 @@
 ghost use Rattle.std.specs.Prelude.{◌≡◌, IfOk};
-ghost use Rattle.tdl_meaning.specs.PlainBundle as plain;
+ghost use Rattle.tdl_make.specs.PlainBundle as plain;
 ghost use Rattle.tdl_walk.specs.Kept.{IsRunnable};
 
 use crate::parts::{argument, blocks, sensor, table};

@@ -1,5 +1,5 @@
 ghost use Rattle.std.specs.Prelude.{◌≡◌, ◌≤◌, [], ◌∷◌, pos, IfOk};
-ghost use Rattle.tdl_meaning.specs.PlainBundle.{add_code, sensor_code, plain_blocks, plain_table};
+ghost use Rattle.tdl_make.specs.PlainBundle.{add_code, sensor_code, plain_blocks, plain_table};
 ghost use Rattle.tdl_plain.specs.PlainProgram.{period_us};
 ghost use Rattle.tdl_walk.specs.Kept.{IsRunnable};
 

@@ -1,1 +1,2 @@
-pub mod PlainBundle
+pub mod Accepted
+pub mod ExampleThree

@@ -1,4 +1,4 @@
-//! What the bundle of a plain program means.
+//! What the compiler's bundles mean.
 #![tactic(auto)]
 
 pub mod laws;

@@ -1,3 +1,4 @@
+-- The instants of a run: all modules at one instant, one module alone, and the states from instant to instant.
 use Rattle.std.specs.Prelude.{ℕ, zero, suc, ℤ, map, None}
 use Rattle.tdl_base.specs.Lists.{numbered}
 use Rattle.tdl_base.specs.declared.numbers.PortKey.{PortKey}

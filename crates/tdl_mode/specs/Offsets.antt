@@ -1,3 +1,4 @@
+-- The offsets of a mode: where something may begin or end in its period.
 use Rattle.std.specs.Prelude.{ℕ, ◌==◌, Bool, List, [], ◌∷◌, ◌++◌, map, if◌then◌else◌, nat_lt, min}
 use Rattle.std.specs.List.{list_any}
 use Rattle.tdl_mode.specs.declared.program.Mode.{Mode}

@@ -1,3 +1,4 @@
+-- The four phases of an instant, for one module.
 use Rattle.std.specs.Prelude.{ℕ, suc, ◌+◌, ℤ, Bool, false, ◌&&◌, List, [], ◌∷◌, map, Option, Some, None, option_map, unwrap_or, slice_get, if◌then◌else◌, ◌==◌, find}
 use Rattle.tdl_base.specs.Lists.{changed_at, numbered}
 use Rattle.tdl_base.specs.declared.kinds.Kind.{Kind}

@@ -1,3 +1,4 @@
+-- The logical state of modules, and what a module may read.
 use Rattle.std.specs.Prelude.{ℕ, zero, suc, ℤ, pos, List, [], ◌++◌, map, length, take, drop, replicate, Option, None, option_map, unwrap_or, slice_get, slice_index_or, if◌then◌else◌, ◌==◌}
 use Rattle.tdl_base.specs.declared.kinds.Kind.{Kind}
 use Rattle.tdl_base.specs.declared.numbers.PortKey.{PortKey}

@@ -13,7 +13,7 @@ use Rattle.tdl_image.specs.Spelling.{byte, string, stack_code_bytes, table_bytes
 use Rattle.tdl_plain.specs.declared.form.Form.{Form}
 use Rattle.tdl_plain.specs.PlainProgram.{period_us}
 use Rattle.tdl_plain.specs.PlainSource.{is_name, is_reserved, IsPlainForm}
-use Rattle.tdl_meaning.specs.PlainBundle.{add_code, plain_hosted, plain_bundle, IsPlainBundle}
+use Rattle.tdl_make.specs.PlainBundle.{add_code, plain_hosted, plain_bundle, IsPlainBundle}
 use Rattle.tdl_image.specs.Spellable.{IsSpellable}
 use Rattle.tdl_make.proofs.Spelled.{spellable}
 use Rattle.tdl_read.specs.Reading.{after_string, name_in, number_in, from_module, from_sensor, from_task, from_worst, from_output, from_initial, from_mode, from_period, input_beside, form_in}

@@ -5,7 +5,7 @@ use Rattle.tdl_image.specs.declared.bundle.Bundle.{Bundle}
 use Rattle.tdl_image.specs.declared.hosted.ImageWindow.{ImageWindow}
 use Rattle.tdl_image.specs.Spellable.{IsSpellable}
 use Rattle.tdl_make.proofs.Spelled.{spellable}
-use Rattle.tdl_meaning.specs.PlainBundle.{plain_hosted, IsPlainBundle}
+use Rattle.tdl_make.specs.PlainBundle.{plain_hosted, IsPlainBundle}
 use Rattle.tdl_node.specs.Machines.{IsOneHost}
 
 pub one_host : (b : Bundle) → IsPlainBundle b → IsOneHost b

@@ -3,7 +3,7 @@ ghost use Rattle.std.specs.Prelude.{◌≡◌};
 ghost use Rattle.tdl_image.specs.Spellable.{IsSpellable};
 ghost use Rattle.tdl_image.specs.Spelling.{bundle_bytes};
 ghost use Rattle.tdl_image.specs.declared.bundle.Bundle.{Bundle};
-ghost use Rattle.tdl_meaning.specs.PlainBundle.{IsPlainBundle};
+ghost use Rattle.tdl_make.specs.PlainBundle.{IsPlainBundle};
 ghost use Rattle.tdl_node.specs.Machines.{IsOneHost};
 
 /// Two bundles of plain programs with one spelling are one.

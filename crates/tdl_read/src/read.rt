@@ -1,7 +1,7 @@
 ghost use Rattle.std.specs.Prelude.{◌≡◌, IfOk, IsErrOf};
 ghost use Rattle.tdl_image.specs.Spelling.{bundle_bytes};
 ghost use Rattle.tdl_image.specs.declared.bundle.Bundle.{Bundle};
-ghost use Rattle.tdl_meaning.specs.PlainBundle.{IsPlainBundle};
+ghost use Rattle.tdl_make.specs.PlainBundle.{IsPlainBundle};
 
 use crate::PlainError;
 use crate::form::form_in;

@@ -7,9 +7,9 @@ use Rattle.tdl_scen.specs.declared.entries.Scenario.{Scenario}
 use Rattle.tdl_verify.specs.Texts.{bundle_run, bundle_text}
 use Rattle.tdl_verify.specs.Runs.{IsAlive}
 use Rattle.tdl_gen.specs.Realises.{Realises}
-use Rattle.tdl_meaning.specs.PlainBundle.{plain_bundle, plain_schedule, IsPlainBundle}
-use Rattle.tdl_meaning.proofs.PlainText.{plain_alive, plain_text}
-use Rattle.tdl_meaning.proofs.PlainRealises.{realises}
+use Rattle.tdl_make.specs.PlainBundle.{plain_bundle, plain_schedule, IsPlainBundle}
+use Rattle.tdl_make.proofs.PlainText.{plain_alive, plain_text}
+use Rattle.tdl_make.proofs.PlainRealises.{realises}
 use Rattle.tdl_top.specs.declared.words.Call.TheVariants.{Compile, Run, Exec}
 use Rattle.tdl_top.specs.Words.{Words}
 use Rattle.tdl_top.specs.Calls.{FilesCall, SinkCall, IsSilent, IsUnchanged}

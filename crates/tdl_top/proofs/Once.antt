@@ -6,7 +6,7 @@ use Rattle.tdl_io.specs.Outside.{Held, IsLonger}
 use Rattle.tdl_plain.proofs.Unique.{source_unique}
 use Rattle.tdl_image.specs.declared.bundle.Bundle.{Bundle}
 use Rattle.tdl_scen.specs.declared.entries.Scenario.{Scenario}
-use Rattle.tdl_meaning.specs.PlainBundle.{plain_bundle}
+use Rattle.tdl_make.specs.PlainBundle.{plain_bundle}
 use Rattle.tdl_top.specs.declared.status.Status.{Status}
 use Rattle.tdl_top.specs.declared.status.Status.TheVariants.{Ok, Usage, LoadFailed, TooLong, WriteFailed, SaveFailed, NoMemory, BadForm}
 use Rattle.tdl_read.proofs.Again.{one_spelling}

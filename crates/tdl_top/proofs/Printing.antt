@@ -9,7 +9,7 @@ use Rattle.tdl_image.specs.declared.bundle.Bundle.{Bundle}
 use Rattle.tdl_verify.specs.States.{Times}
 use Rattle.tdl_verify.specs.Runs.{IsAlive, machine_run, plain_rows, no_loss}
 use Rattle.tdl_verify.specs.Texts.{bundle_names, bundle_text, times_in}
-use Rattle.tdl_meaning.specs.PlainBundle.{IsPlainBundle}
+use Rattle.tdl_make.specs.PlainBundle.{IsPlainBundle}
 use Rattle.tdl_trace.specs.declared.why.Why.{Why}
 use Rattle.tdl_node.specs.declared.fault.NodeFault.{NodeFault}
 use Rattle.tdl_node.specs.declared.fault.NodeFault.TheVariants.{Trapped}

@@ -9,7 +9,7 @@ use Rattle.tdl_scen.specs.declared.entries.Scenario.{Scenario}
 use Rattle.tdl_walk.specs.Kept.{IsRunnable}
 use Rattle.tdl_image.specs.declared.bundle.Bundle.{Bundle}
 use Rattle.tdl_verify.specs.Texts.{bundle_text}
-use Rattle.tdl_meaning.specs.PlainBundle.{plain_bundle}
+use Rattle.tdl_make.specs.PlainBundle.{plain_bundle}
 use Rattle.tdl_top.specs.declared.status.Status.{Status}
 use Rattle.tdl_top.specs.declared.status.Status.TheVariants.{Ok, Usage, LoadFailed, TooLong, WriteFailed, SaveFailed, NoMemory, BadForm}
 use Rattle.tdl_top.specs.declared.words.Call.{Call}

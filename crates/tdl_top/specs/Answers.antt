@@ -10,7 +10,7 @@ use Rattle.tdl_trace.specs.Lines.{module_name, sensor_name}
 use Rattle.tdl_image.specs.declared.bundle.Bundle.{Bundle}
 use Rattle.tdl_image.specs.Spelling.{bundle_bytes}
 use Rattle.tdl_verify.specs.Texts.{bundle_names, bundle_text}
-use Rattle.tdl_meaning.specs.PlainBundle.{plain_bundle, IsPlainBundle}
+use Rattle.tdl_make.specs.PlainBundle.{plain_bundle, IsPlainBundle}
 use Rattle.tdl_top.specs.declared.status.Status.{Status}
 use Rattle.tdl_top.specs.declared.status.Status.TheVariants.{Ok, Usage, LoadFailed, TooLong, WriteFailed, SaveFailed, NoMemory, BadForm}
 use Rattle.tdl_top.specs.declared.words.Call.{Call}

@@ -15,7 +15,7 @@ use Rattle.tdl_image.specs.Spelling.{bundle_bytes}
 use Rattle.tdl_verify.specs.Runs.{IsAlive}
 use Rattle.tdl_verify.specs.Texts.{bundle_run, bundle_text}
 use Rattle.tdl_gen.specs.Realises.{Realises}
-use Rattle.tdl_meaning.specs.PlainBundle.{plain_schedule, IsPlainBundle}
+use Rattle.tdl_make.specs.PlainBundle.{plain_schedule, IsPlainBundle}
 use Rattle.tdl_top.specs.Words.{Words, word_at}
 use Rattle.tdl_top.specs.Calls.{FilesCall, SinkCall}
 use Rattle.tdl_top.specs.Answers.{IsRead, HasScenario}

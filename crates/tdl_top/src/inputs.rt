@@ -2,7 +2,7 @@ ghost use Rattle.std.specs.Prelude.{◌≡◌, ◌≤◌, ℕ, Some, length, IfO
 ghost use Rattle.tdl_io.specs.Outside.{Reads, NoCountFalls, NoCountChanges};
 ghost use Rattle.tdl_trace.specs.Lines.{module_name, sensor_name};
 ghost use Rattle.tdl_verify.specs.Texts.{bundle_names};
-ghost use Rattle.tdl_meaning.specs.PlainBundle.{IsPlainBundle};
+ghost use Rattle.tdl_make.specs.PlainBundle.{IsPlainBundle};
 ghost use Rattle.tdl_top.specs.declared.words.Call.{Call};
 ghost use Rattle.tdl_top.specs.Words.{texts, word_at, scenario_word};
 ghost use Rattle.tdl_top.specs.Calls.{files_call};

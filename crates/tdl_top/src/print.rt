@@ -1,7 +1,7 @@
 ghost use Rattle.std.specs.Prelude.{◌≡◌, ◌≤◌, [], OnOk, IfErr};
 ghost use Rattle.tdl_io.specs.Outside.{Appends};
 ghost use Rattle.tdl_verify.specs.Texts.{bundle_text};
-ghost use Rattle.tdl_meaning.specs.PlainBundle.{IsPlainBundle};
+ghost use Rattle.tdl_make.specs.PlainBundle.{IsPlainBundle};
 ghost use Rattle.tdl_top.specs.Calls.{sink_call};
 ghost use Rattle.tdl_top.specs.Loads.{PrintSays};
 

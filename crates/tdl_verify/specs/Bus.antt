@@ -37,31 +37,41 @@ task_of h mode invocation =
 abbrev pub output_kinds : Hosted → ℕ → List Kind
 output_kinds h t = unwrap_or (option_map (λ k. map (λ o. o.kind) k.outputs) (slice_get h.tasks t)) []
 
--- what a window of a module sends: the outputs of its job where it is done, else the committed ones; none where it is not done
+-- the member of a window, where its job was executed or not, with these outputs
+abbrev pub window_member : Hosted → ImageWindow → Bool → List ℤ → Member
+window_member h w executed outputs = record {
+  invocation = w.invocation;
+  executed = executed;
+  kinds = output_kinds h (task_of h w.mode w.invocation);
+  values = outputs;
+}
+
+-- what a window sends, by its task's committed outputs and slot: the outputs of its job where it is done, none where it
+-- is not, and the committed outputs where no such job was released
+abbrev pub member_by : Hosted → ImageWindow → List ℤ → Slot → Option Member
+member_by h w outputs Slot.Idle = Some (window_member h w false outputs)
+member_by h w outputs (Slot.Ready mode invocation left cells) =
+    if mode == w.mode && invocation == w.invocation then None else Some (window_member h w false outputs)
+member_by h w outputs (Slot.Done mode invocation made) =
+    if mode == w.mode && invocation == w.invocation then Some (window_member h w true made)
+    else Some (window_member h w false outputs)
+
+-- what a window of a module sends
 abbrev pub member_of : Hosted → HostNow → ImageWindow → Option Member
-member_of h s w = unwrap_or (option_map by_task (slice_get s.tasks (task_of h w.mode w.invocation))) (unsent [])
-  where
-    unsent : List ℤ → Option Member
-    unsent outputs = Some (record { invocation = w.invocation; executed = false; kinds = output_kinds h (task_of h w.mode w.invocation); values = outputs })
+member_of h s w =
+    unwrap_or (option_map (λ (u : TaskNow). member_by h w u.outputs u.slot)
+    (slice_get s.tasks (task_of h w.mode w.invocation)))
+    (Some (window_member h w false []))
 
-    sent : List ℤ → Option Member
-    sent outputs = Some (record { invocation = w.invocation; executed = true; kinds = output_kinds h (task_of h w.mode w.invocation); values = outputs })
-
-    by_slot : List ℤ → Slot → Option Member
-    by_slot outputs Slot.Idle = unsent outputs
-    by_slot outputs (Slot.Ready mode invocation left cells) = if mode == w.mode && invocation == w.invocation then None else unsent outputs
-    by_slot outputs (Slot.Done mode invocation made) = if mode == w.mode && invocation == w.invocation then sent made else unsent outputs
-
-    by_task : TaskNow → Option Member
-    by_task u = by_slot u.outputs u.slot
+-- the start of a window that sends this member; late where there is none
+abbrev pub start_by : Hosted → HostNow → ImageWindow → Option Member → Start
+start_by h s w None = Start.Late
+start_by h s w (Some m) =
+    Start.Sends (record { owner = h.number.0; mode = w.mode; members = m ∷ [] }) (s.base + w.offset + w.length)
 
 -- the start of one window
 abbrev pub start_of : Hosted → HostNow → ImageWindow → Start
-start_of h s w = by_member (member_of h s w)
-  where
-    by_member : Option Member → Start
-    by_member None = Start.Late
-    by_member (Some m) = Start.Sends (record { owner = h.number.0; mode = w.mode; members = m ∷ [] }) (s.base + w.offset + w.length)
+start_of h s w = start_by h s w (member_of h s w)
 
 -- the starts of a part at x
 abbrev pub starts : ℕ → Part → List Start

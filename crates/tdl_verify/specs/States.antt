@@ -79,14 +79,15 @@ abbrev pub part_number : Part → ℕ
 part_number (Part.Host h s) = h.number.0
 part_number (Part.Outside t s) = t.number.0
 
+-- the outputs of task t of a stub
+abbrev pub stub_outputs : ℕ → List StubTask → List (List ℤ) → List ℤ
+stub_outputs t (task ∷ tasks) (outputs ∷ more) = if task.number == t then outputs else stub_outputs t tasks more
+stub_outputs t tasks outputs = []
+
 -- the outputs of task t of a part
 abbrev pub part_outputs : Part → ℕ → List ℤ
 part_outputs (Part.Host h s) t = unwrap_or (option_map (λ u. u.outputs) (slice_get s.tasks t)) []
-part_outputs (Part.Outside p s) t = find_outputs t p.tasks s.outputs
-  where
-    find_outputs : ℕ → List StubTask → List (List ℤ) → List ℤ
-    find_outputs t (task ∷ tasks) (outputs ∷ more) = if task.number == t then outputs else find_outputs t tasks more
-    find_outputs t tasks outputs = []
+part_outputs (Part.Outside p s) t = stub_outputs t p.tasks s.outputs
 
 -- the outputs that the parts of a node hold
 abbrev pub outputs_on : List Part → PortKey → ℤ

@@ -37,6 +37,13 @@ abbrev pub is_at : ℕ → Option ℕ → Bool
 is_at x None = false
 is_at x (Some at) = at == x
 
+-- the due entries of this phase of a stub at place k, the first of these entries at place n
+abbrev pub due_entries : ℕ → ℕ → ℕ → Stub → ℕ → List Receive → List EntryNow → List Due
+due_entries x phase k p n (e ∷ es) (now ∷ more) =
+    (if is_at x now.due && phase_of p.blocks e.block == phase then record { part = k; entry = n } ∷ [] else [])
+    ++ due_entries x phase k p (suc n) es more
+due_entries x phase k p n es more = []
+
 -- the due triggers of this phase of a part, whose place is k
 abbrev pub due_of : ℕ → ℕ → ℕ → Part → List Due
 due_of x phase k (Part.Host h s) = host_due s.trigger
@@ -44,12 +51,7 @@ due_of x phase k (Part.Host h s) = host_due s.trigger
     host_due : Option Trigger → List Due
     host_due None = []
     host_due (Some t) = if t.at == x && phase_of h.blocks t.block == phase then record { part = k; entry = 0 } ∷ [] else []
-due_of x phase k (Part.Outside p s) = from_entry 0 p.entries s.entries
-  where
-    from_entry : ℕ → List Receive → List EntryNow → List Due
-    from_entry n (e ∷ es) (now ∷ more) =
-        (if is_at x now.due && phase_of p.blocks e.block == phase then record { part = k; entry = n } ∷ [] else []) ++ from_entry (suc n) es more
-    from_entry n es more = []
+due_of x phase k (Part.Outside p s) = due_entries x phase k p 0 p.entries s.entries
 
 -- the due triggers of this phase, part by part
 abbrev pub due_in : ℕ → ℕ → List Part → List Due
@@ -177,17 +179,19 @@ host_acts x node value times h s pc (Jump a) = Acted.On (Part.Host h s) [] a
 host_acts x node value times h s pc (Future dt b) =
     Acted.On (Part.Host h (record s { trigger = Some (record { at = x + dt; block = b }) })) [] (suc pc)
 
+-- the outputs of a stub, those of task t replaced by a copy
+abbrev pub replaced_in : ℕ → List ℤ → List StubTask → List (List ℤ) → List (List ℤ)
+replaced_in t copy (task ∷ tasks) (outputs ∷ more) =
+    (if task.number == t then copy else outputs) ∷ replaced_in t copy tasks more
+replaced_in t copy tasks more = more
+
 -- the copy of entry r becomes the outputs of its task
 abbrev pub took : ℕ → ℕ → Stub → StubNow → ℕ → ℕ → Acted
 took x node p s pc r = by_entry (slice_get p.entries r) (slice_get s.entries r)
   where
-    replaced : ℕ → List ℤ → List StubTask → List (List ℤ) → List (List ℤ)
-    replaced t copy (task ∷ tasks) (outputs ∷ more) = (if task.number == t then copy else outputs) ∷ replaced t copy tasks more
-    replaced t copy tasks more = more
-
     by_entry : Option Receive → Option EntryNow → Acted
     by_entry (Some e) (Some now) =
-        Acted.On (Part.Outside p (record s { outputs = replaced e.task now.copy p.tasks s.outputs }))
+        Acted.On (Part.Outside p (record s { outputs = replaced_in e.task now.copy p.tasks s.outputs }))
         (output_rows x node p.number.0 e.task now.copy) (suc pc)
     by_entry e now = Acted.On (Part.Outside p s) [] (suc pc)
 

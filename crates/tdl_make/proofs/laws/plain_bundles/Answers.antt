@@ -1,5 +1,8 @@
-use Rattle.tdl_make.proofs.Spelled.{spellable}
+use Rattle.tdl_make.proofs.PlainRealises.{made, realises}
 use Rattle.tdl_make.proofs.laws.plain_bundles.Goals as goal
 
 pub returns : goal.returns
-returns c = spellable
+returns c = record {
+  made = made;
+  realises = realises;
+}
