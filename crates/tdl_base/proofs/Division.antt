@@ -35,7 +35,8 @@ int_div-nonzero a (pos (suc n)) nonzero = refl
 int_div-nonzero a (negsuc n) nonzero = refl
 
 -- by a divisor that is not 0, the machine's quotient is the quotient wrapped
-pub wrapped-quotient : (a b : ℤ) → FitsSigned w64 a → cast_unsigned w64 b ≢ 0 → cast_signed w64 (cast_unsigned w64 (int_div a b)) ≡ wrapped (quotient a b)
+pub wrapped-quotient : (a b : ℤ) → FitsSigned w64 a → cast_unsigned w64 b ≢ 0 →
+    cast_signed w64 (cast_unsigned w64 (int_div a b)) ≡ wrapped (quotient a b)
 wrapped-quotient a b fits nonzero =
     wrapped-bits (int_div a b) (omega (arith, unsigned_abs-int_div a b, unsigned_abs-fits a fits))
     ∙ ap wrapped (int_div-nonzero a b nonzero)

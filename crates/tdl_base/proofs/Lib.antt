@@ -8,3 +8,5 @@ pub mod Among
 pub mod NumberedLists
 pub mod ListPlaces
 pub mod SideBySide
+pub mod PrefixFree
+pub mod NumbersInBytes

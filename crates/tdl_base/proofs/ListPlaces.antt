@@ -19,9 +19,9 @@ in-front a xs ys i = from xs i.place i.at
     from (x ∷ xs) (suc n) at = let r = from xs n at in record { place = suc r.place; at = r.at }
 
 -- what stands in a list stands in it after any other list
-pub in-behind : {A : Type 0} (a : A) (xs ys : List A) → In a ys → In a (xs ++ ys)
-in-behind a [] ys i = i
-in-behind a (x ∷ xs) ys i = let r = in-behind a xs ys i in record { place = suc r.place; at = r.at }
+pub in-back : {A : Type 0} (a : A) (xs ys : List A) → In a ys → In a (xs ++ ys)
+in-back a [] ys i = i
+in-back a (x ∷ xs) ys i = let r = in-back a xs ys i in record { place = suc r.place; at = r.at }
 
 -- an item that passes the test stands in what the filter keeps
 pub in-filter : {A : Type 0} (q : A → Bool) (xs : List A) (n : ℕ) (a : A) →
@@ -42,7 +42,7 @@ pub in-flat : {A B : Type 0} (f : A → List B) (xs : List A) (n : ℕ) (a : A) 
 in-flat f [] n a b at i = absurd (cc at)
 in-flat f (x ∷ xs) zero a b at i =
     in-front b (f x) (flat_map f xs) (subst (λ y. In b (f y)) (sym (same_Some x a at)) i)
-in-flat f (x ∷ xs) (suc n) a b at i = in-behind b (f x) (flat_map f xs) (in-flat f xs n a b at i)
+in-flat f (x ∷ xs) (suc n) a b at i = in-back b (f x) (flat_map f xs) (in-flat f xs n a b at i)
 
 -- a list of at most one item in which a stands is the list of a alone
 pub only-one : {A : Type 0} (a : A) (xs : List A) → length xs ≤ 1 → In a xs → xs ≡ a ∷ []

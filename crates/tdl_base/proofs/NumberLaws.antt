@@ -32,8 +32,11 @@ sum_times j k n =
 
 -- two differences by a multiple in a row are one
 differ_twice : (n : ℕ) (a b c : ℤ) → DifferByMultiple n a c → DifferByMultiple n c b → DifferByMultiple n a b
-differ_twice n a b c p q =
-    (p.0 +ℤ q.0, p.1 ∙ ap (λ x. x +ℤ p.0 *ℤ pos n) q.1 ∙ joined (p.0 *ℤ pos n) (q.0 *ℤ pos n) ((p.0 +ℤ q.0) *ℤ pos n) (sum_times p.0 q.0 n))
+differ_twice n a b c p q = (
+  p.0 +ℤ q.0,
+  p.1 ∙ ap (λ x. x +ℤ p.0 *ℤ pos n) q.1
+      ∙ joined (p.0 *ℤ pos n) (q.0 *ℤ pos n) ((p.0 +ℤ q.0) *ℤ pos n) (sum_times p.0 q.0 n),
+)
   where
     joined : (x y z : ℤ) → z ≡ x +ℤ y → (b +ℤ y) +ℤ x ≡ b +ℤ z
     joined x y z e = omega (arith, ints)
@@ -48,7 +51,9 @@ int_wrap_differs w v =
     differ_twice (2 ^ bits w) v (int_wrap w v) rest (rest_differs (2 ^ bits w) some v)
     (subst (λ (r : ℤ). DifferByMultiple (2 ^ bits w) r (int_wrap w v)) is.0 (bits_differ w (unsigned_abs rest) is.1))
   where
-    not_negative : (m : ℕ) → 0 < m → (v : ℤ) → (pos (unsigned_abs (int_rem_euclid v (pos m))) ≡ int_rem_euclid v (pos m)) × (unsigned_abs (int_rem_euclid v (pos m)) < m)
+    not_negative : (m : ℕ) → 0 < m → (v : ℤ) →
+        (pos (unsigned_abs (int_rem_euclid v (pos m))) ≡ int_rem_euclid v (pos m))
+        × (unsigned_abs (int_rem_euclid v (pos m)) < m)
     not_negative m h (pos a) = (refl, mod-lt a h)
     not_negative m h (negsuc a) = (refl, omega (arith, mod-lt a h))
 
@@ -82,7 +87,8 @@ narrowed_of_kind Int v = int_wrap_range-32 v
 narrowed_of_kind Long v = int_wrap_range-64 v
 
 -- narrowing takes a multiple of 2 to the kind's bits away, but for a boolean
-pub narrowed_differs : (kind : Kind) (v : ℤ) → kind ≢ Boolean → DifferByMultiple (2 ^ (8 * width_of kind)) v (narrowed kind v)
+pub narrowed_differs : (kind : Kind) (v : ℤ) → kind ≢ Boolean →
+    DifferByMultiple (2 ^ (8 * width_of kind)) v (narrowed kind v)
 narrowed_differs Boolean v other = absurd (other refl)
 narrowed_differs Byte v other = int_wrap_differs w8 v
 narrowed_differs Short v other = int_wrap_differs w16 v

@@ -2,12 +2,7 @@
 use Rattle.std.proofs.Common.{◌≡◌, ℕ, zero, suc, List, [], ◌∷◌, ◌++◌, Some, refl, subst}
 use Rattle.std.specs.Prelude.{slice_get}
 use Rattle.std.proofs.lemmas.Option.{same_Some}
-
--- the lists have one length, and R holds of the two items of each place
-abbrev pub Zip : {A B : Type 0} → (A → B → Type 0) → List A → List B → Type 0
-Zip R [] [] = Unit {0}
-Zip R (x ∷ xs) (y ∷ ys) = R x y × Zip R xs ys
-Zip R xs ys = ⊥
+pub use Rattle.tdl_base.specs.Lists.{Zip}
 
 -- two such pairs of lists, one pair after the other
 pub zip-append : {A B : Type 0} (R : A → B → Type 0) (xs more_xs : List A) (ys more_ys : List B) →

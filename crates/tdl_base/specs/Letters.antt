@@ -14,7 +14,7 @@ is_digit c = nat_le 48 c && nat_le c 57
 abbrev pub is_name_byte : ℕ → Bool
 is_name_byte c = is_letter c || is_digit c || c == 95
 
--- a word: a letter with the identifier bytes behind it, however many
+-- a word: a letter with the identifier bytes after it, however many
 abbrev pub is_word : List ℕ → Bool
 is_word [] = false
 is_word (c ∷ cs) = is_letter c && list_all is_name_byte cs

@@ -3,6 +3,7 @@
 #![tactic(auto)]
 
 mod arithmetic;
+pub mod bytes;
 mod kinds;
 pub mod laws;
 pub mod limits;
@@ -16,6 +17,6 @@ pub use arithmetic::{BinOp, UnOp, bin, un};
 pub use kinds::{Kind, narrow, width};
 pub use listed::Listed;
 pub use memory::NoMemory;
-pub use numbers::{ModeId, ModuleId, NodeId, Place, PortKey, TaskId, Us};
+pub use numbers::{FIRST_NODE, ModeId, ModuleId, NodeId, Place, PortKey, TaskId, Us};
 pub use sensed::Sensed;
 pub use text::Text;

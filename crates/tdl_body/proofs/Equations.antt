@@ -16,7 +16,8 @@ use Rattle.tdl_body.specs.declared.tree.Stmt.TheViews.{roll-Body, roll-Stmt}
 use Rattle.tdl_body.specs.declared.tree.Stmt.TheFolds.{fold-roll-Body, fold-roll-Stmt, fold-Stmt, map-Stmt, map-Body}
 use Rattle.tdl_body.specs.Values.{Look, read, value_of, expr_step}
 use Rattle.tdl_body.specs.Places.{places_of, places_step}
-use Rattle.tdl_body.specs.Effects.{Cells, done, stored, in_turn, look_of_cells, stmt_step, block_step}
+use Rattle.tdl_base.specs.Cells.{Cells, stored}
+use Rattle.tdl_body.specs.Effects.{effect_of, in_turn, look_of_cells, stmt_step, block_step}
 
 -- ---- expressions
 
@@ -55,29 +56,29 @@ abbrev pub Effect : Type 0
 Effect = Cells → Cells
 
 -- what one statement does
-unfoldable pub done_one : Stmt → Effect
-done_one = fold-Stmt Effect Effect stmt_step block_step
+unfoldable pub effect_of_stmt : Stmt → Effect
+effect_of_stmt = fold-Stmt Effect Effect stmt_step block_step
 
 -- what a statement does, from what its blocks do
-pub done_one-roll : (node : Stmt-F Stmt Body) →
-    done_one (roll-Stmt node) ≡ stmt_step (map-Stmt Stmt Body Effect Effect done_one done node)
-unfolding done_one done
-done_one-roll node = fold-roll-Stmt Effect Effect stmt_step block_step node
+pub effect_of_stmt-roll : (node : Stmt-F Stmt Body) →
+    effect_of_stmt (roll-Stmt node) ≡ stmt_step (map-Stmt Stmt Body Effect Effect effect_of_stmt effect_of node)
+unfolding effect_of_stmt effect_of
+effect_of_stmt-roll node = fold-roll-Stmt Effect Effect stmt_step block_step node
 
 -- what a block does, from what its statements do
-pub done-roll : (node : Body-F Stmt Body) →
-    done (roll-Body node) ≡ block_step (map-Body Stmt Body Effect Effect done_one done node)
-unfolding done_one done
-done-roll node = fold-roll-Body Effect Effect stmt_step block_step node
+pub effect_of-roll : (node : Body-F Stmt Body) →
+    effect_of (roll-Body node) ≡ block_step (map-Body Stmt Body Effect Effect effect_of_stmt effect_of node)
+unfolding effect_of_stmt effect_of
+effect_of-roll node = fold-roll-Body Effect Effect stmt_step block_step node
 
 -- what a body does is what its statements do in turn
-pub done-stmts : (stmts : List Stmt) (cells : Cells) →
-    done (record { stmts = stmts }) cells ≡ in_turn (map done_one stmts) cells
+pub effect_of-stmts : (stmts : List Stmt) (cells : Cells) →
+    effect_of (record { stmts = stmts }) cells ≡ in_turn (map effect_of_stmt stmts) cells
 unfolding denote.Hole.Carrier.roll
-done-stmts stmts cells = ap (λ (f : Effect). f cells) (done-roll (record { stmts = stmts }))
+effect_of-stmts stmts cells = ap (λ (f : Effect). f cells) (effect_of-roll (record { stmts = stmts }))
 
 -- what an assignment does
-pub done_one-assign : (k : ℕ) (e : Expr) (cells : Cells) →
-    done_one (stmt.Assign k e) cells ≡ stored k (value_of e (look_of_cells cells)) cells
+pub effect_of_stmt-assign : (k : ℕ) (e : Expr) (cells : Cells) →
+    effect_of_stmt (stmt.Assign k e) cells ≡ stored k (value_of e (look_of_cells cells)) cells
 unfolding roll-Stmt denote.Hole.Carrier.roll
-done_one-assign k e cells = ap (λ (f : Effect). f cells) (done_one-roll (Stmt-F.Assign k e))
+effect_of_stmt-assign k e cells = ap (λ (f : Effect). f cells) (effect_of_stmt-roll (Stmt-F.Assign k e))

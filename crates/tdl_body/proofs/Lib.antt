@@ -1,2 +1,3 @@
 pub mod Equations
 pub mod Reading
+pub mod StatementExamples

@@ -1,17 +1,11 @@
 -- What a body does to its cells.
-use Rattle.std.specs.Prelude.{ℕ, zero, suc, ℤ, pos, List, [], ◌∷◌, if◌then◌else◌, slice_index_or, slice_set, Option, Some, None}
-use Rattle.tdl_base.specs.declared.kinds.Kind.{Kind}
-use Rattle.tdl_base.specs.declared.kinds.Kind.TheVariants.{Long}
-use Rattle.tdl_base.specs.Numbers.{narrowed, is_true}
+use Rattle.std.specs.Prelude.{ℕ, pos, List, [], ◌∷◌, if◌then◌else◌, slice_index_or, Option, Some, None}
+use Rattle.tdl_base.specs.Numbers.{is_true}
+use Rattle.tdl_base.specs.Cells.{Cells, stored, repeated}
 use Rattle.tdl_body.specs.declared.tree.Body.{Body}
 use Rattle.tdl_body.specs.declared.tree.Stmt.TheOpen.{Stmt-F, Body-F}
 use Rattle.tdl_body.specs.declared.tree.Stmt.TheFolds.{fold-Body}
 use Rattle.tdl_body.specs.Values.{Look, value_of}
-
--- the cells of a job: its inputs, then its outputs, then its locals
-pub record Cells : Type 0 where
-  pub kinds : List Kind
-  pub values : List ℤ
 
 -- a body reads its cells alone
 abbrev pub look_of_cells : Cells → Look
@@ -20,15 +14,6 @@ look_of_cells cells = record {
   sensor = λ _. pos 0;
   port = λ _. pos 0;
 }
-
--- the cell takes the number, narrowed to its kind
-abbrev pub stored : ℕ → ℤ → Cells → Cells
-stored k v cells = record cells { values = slice_set cells.values k (narrowed (slice_index_or cells.kinds k Long) v) }
-
--- f done n times
-abbrev pub repeated : ℕ → (Cells → Cells) → Cells → Cells
-repeated zero f cells = cells
-repeated (suc n) f cells = f (repeated n f cells)
 
 -- what each does, one after the other
 abbrev pub in_turn : List (Cells → Cells) → Cells → Cells
@@ -52,5 +37,5 @@ abbrev pub block_step : Body-F (Cells → Cells) (Cells → Cells) → Cells →
 block_step block = in_turn block.stmts
 
 -- what a body does to the cells of a job
-unfoldable pub done : Body → Cells → Cells
-done = fold-Body (Cells → Cells) (Cells → Cells) stmt_step block_step
+unfoldable pub effect_of : Body → Cells → Cells
+effect_of = fold-Body (Cells → Cells) (Cells → Cells) stmt_step block_step

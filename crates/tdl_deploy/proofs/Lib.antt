@@ -1,1 +1,6 @@
-mod Examples
+pub mod ExampleCounter
+pub mod ExampleCounterRows
+mod ExampleGuardRows
+mod ExampleSwitchRows
+pub mod ExampleModuleRows
+mod ExamplePlacing

@@ -17,8 +17,8 @@ use Rattle.tdl_deploy.specs.Placed.{hosts, is_remote, duration_of}
 
 -- ---- a placement
 
--- every module stands on exactly one node, and no other number does; what the rules say of the nodes' names, of a module
--- that one node lists twice and of the bus is no part of it
+-- every module stands on exactly one node, and no other number does; what the rules say of the nodes' names, of a
+-- module that one node lists twice and of the bus is no part of it
 pub record WellPlaced (program : Program) (placement : Placement) : Type 0 where
   pub hosted : (m : ℕ) → m < length program.modules → (n : ℕ) × (hosts placement n m ≡ true)
   pub once : (m n k : ℕ) → hosts placement n m ≡ true → hosts placement k m ≡ true → n ≡ k
@@ -54,9 +54,9 @@ is_cpu_of m k n w = (if is_bus w.resource then false else true) && is_of m k n w
 abbrev pub is_bus_of : ℕ → ℕ → ℕ → Window → Bool
 is_bus_of m k n w = is_bus w.resource && is_of m k n w
 
--- until when an invocation must be done: the start of its first bus window in order of the text, or its end where it has none
+-- when an invocation has to be done: where its first listed bus window starts; without one, where it ends
 abbrev pub deadline : Schedule → ℕ → ℕ → ℕ → ℕ → ℕ
-deadline s m k n e = unwrap_or (option_map (λ w. w.offset) (find (is_bus_of m k n) s.windows)) e
+deadline schedule m k n e = unwrap_or (option_map (λ w. w.offset) (find (is_bus_of m k n) schedule.windows)) e
 
 -- the one ends before the other begins, or where it begins
 abbrev pub Clear : Window → Window → Type 0
@@ -89,30 +89,37 @@ pub record ApartModulo (program : Program) (v w : Window) : Type 0 where
 -- ---- a schedule
 
 -- a schedule that passes its test, beside a well-formed program; the number of its windows is no part of it
-pub record Passes (program : Program) (placement : Placement) (s : Schedule) : Type 0 where
+pub record Passes (program : Program) (placement : Placement) (schedule : Schedule) : Type 0 where
   -- each window is of an invocation that is there, and lasts
-  pub invoked : (q : ℕ) (w : Window) → slice_get s.windows q ≡ Some w → Invoked program w.module.0 w.mode.0 w.invocation
-  pub lengths : (q : ℕ) (w : Window) → slice_get s.windows q ≡ Some w → 0 < w.length
+  pub invoked : (q : ℕ) (w : Window) → slice_get schedule.windows q ≡ Some w →
+      Invoked program w.module.0 w.mode.0 w.invocation
+  pub lengths : (q : ℕ) (w : Window) → slice_get schedule.windows q ≡ Some w → 0 < w.length
   -- a processor window lies between its invocation's start and deadline
-  pub within : (q : ℕ) (w : Window) → slice_get s.windows q ≡ Some w → is_bus w.resource ≡ false →
+  pub within : (q : ℕ) (w : Window) → slice_get schedule.windows q ≡ Some w → is_bus w.resource ≡ false →
       (i : Invoked program w.module.0 w.mode.0 w.invocation) →
-      (i.invocation.s.0 ≤ w.offset) × (w.offset + w.length ≤ deadline s w.module.0 w.mode.0 w.invocation i.invocation.e.0)
+      (i.invocation.s.0 ≤ w.offset)
+      × (w.offset + w.length ≤ deadline schedule w.module.0 w.mode.0 w.invocation i.invocation.e.0)
   -- an invocation's processor windows together last at least its worst case
-  pub enough : (m k n : ℕ) (i : Invoked program m k n) → i.task.worst.0 ≤ sum (map (λ w. w.length) (filter (is_cpu_of m k n) s.windows))
+  pub enough : (m k n : ℕ) (i : Invoked program m k n) →
+      i.task.worst.0 ≤ sum (map (λ w. w.length) (filter (is_cpu_of m k n) schedule.windows))
   -- a remote invocation has one bus window, another has none
   pub one_bus : (m k n : ℕ) (i : Invoked program m k n) →
-      length (filter (is_bus_of m k n) s.windows) ≡ (if is_remote program placement m i.task then 1 else 0)
-  -- a bus window lies within its invocation and is at least as long as the frame takes
-  pub on_bus : (q : ℕ) (w : Window) → slice_get s.windows q ≡ Some w → is_bus w.resource ≡ true →
+      length (filter (is_bus_of m k n) schedule.windows) ≡ (if is_remote program placement m i.task then 1 else 0)
+  -- a bus window stays inside its invocation, and its length holds the frame
+  pub on_bus : (q : ℕ) (w : Window) → slice_get schedule.windows q ≡ Some w → is_bus w.resource ≡ true →
       (i : Invoked program w.module.0 w.mode.0 w.invocation) →
-      (i.invocation.s.0 ≤ w.offset) × (w.offset + w.length ≤ i.invocation.e.0) × (duration_of placement i.task ≤ w.length)
-  -- two windows of one resource, module and mode do not overlap
-  pub apart : (q r : ℕ) (v w : Window) → q < r → slice_get s.windows q ≡ Some v → slice_get s.windows r ≡ Some w →
+      (i.invocation.s.0 ≤ w.offset) × (w.offset + w.length ≤ i.invocation.e.0)
+      × (duration_of placement i.task ≤ w.length)
+  -- one module's windows in one mode and on one resource are clear of each other
+  pub apart : (q r : ℕ) (v w : Window) → q < r → slice_get schedule.windows q ≡ Some v →
+      slice_get schedule.windows r ≡ Some w →
       is_bus v.resource ≡ is_bus w.resource → v.module.0 ≡ w.module.0 → v.mode.0 ≡ w.mode.0 → Clear v w
-  -- processor windows of two modules on one node do not meet
-  pub cpu_apart : (q r node : ℕ) (v w : Window) → q < r → slice_get s.windows q ≡ Some v → slice_get s.windows r ≡ Some w →
+  -- on one node, processor windows of different modules never meet
+  pub cpu_apart : (q r node : ℕ) (v w : Window) → q < r → slice_get schedule.windows q ≡ Some v →
+      slice_get schedule.windows r ≡ Some w →
       is_bus v.resource ≡ false → is_bus w.resource ≡ false → (v.module.0 == w.module.0) ≡ false →
       hosts placement node v.module.0 ≡ true → hosts placement node w.module.0 ≡ true → ApartModulo program v w
   -- bus windows of two modules do not meet
-  pub bus_apart : (q r : ℕ) (v w : Window) → q < r → slice_get s.windows q ≡ Some v → slice_get s.windows r ≡ Some w →
+  pub bus_apart : (q r : ℕ) (v w : Window) → q < r → slice_get schedule.windows q ≡ Some v →
+      slice_get schedule.windows r ≡ Some w →
       is_bus v.resource ≡ true → is_bus w.resource ≡ true → (v.module.0 == w.module.0) ≡ false → ApartModulo program v w

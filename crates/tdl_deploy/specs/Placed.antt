@@ -10,22 +10,22 @@ use Rattle.tdl_deploy.specs.declared.placement.Placement.{Placement}
 use Rattle.tdl_deploy.specs.declared.placement.PlacedNode.{PlacedNode}
 
 -- the modules that a node hosts
-abbrev pub hosted_on : Placement → ℕ → List ModuleId
-hosted_on placement node = unwrap_or (option_map (λ n. n.modules) (slice_get placement.nodes node)) []
+abbrev pub modules_on : Placement → ℕ → List ModuleId
+modules_on placement node = unwrap_or (option_map (λ n. n.modules) (slice_get placement.nodes node)) []
 
 -- the node hosts module m
 abbrev pub hosts : Placement → ℕ → ℕ → Bool
-hosts placement node m = is_among m (hosted_on placement node)
+hosts placement node m = is_among m (modules_on placement node)
 
 -- some module that the node hosts imports module m directly
 abbrev pub imports : Program → Placement → ℕ → ℕ → Bool
-imports program placement node m = list_any (λ h. is_among m (imports_of program h.0)) (hosted_on placement node)
+imports program placement node m = list_any (λ h. is_among m (imports_of program h.0)) (modules_on placement node)
 
 -- the node sees a task of module m: its own, or a public one of a module that its own import directly
 abbrev pub sees : Program → Placement → ℕ → ℕ → Task → Bool
 sees program placement node m task = hosts placement node m || (task.public && imports program placement node m)
 
--- a task of module m is remote where it is public and a module that imports its module is on another node
+-- a public task is remote where some node without its module has an importer of it
 abbrev pub is_remote : Program → Placement → ℕ → Task → Bool
 is_remote program placement m task = task.public && list_any elsewhere placement.nodes
   where

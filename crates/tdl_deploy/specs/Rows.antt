@@ -1,30 +1,27 @@
 -- The rows that each node shows of the one logical execution.
-use Rattle.std.specs.Prelude.{ℕ, zero, suc, ℤ, ◌==◌, List, [], ◌∷◌, ◌++◌, map, Option, Some, None, option_map, if◌then◌else◌}
+use Rattle.std.specs.Prelude.{ℕ, zero, suc, ℤ, ◌==◌, List, [], ◌∷◌, ◌++◌, map, option_map, if◌then◌else◌}
+use Rattle.std.specs.Option.{option_to_list}
 use Rattle.tdl_base.specs.Lists.{joined, numbered}
 use Rattle.tdl_body.specs.Values.{Look}
 use Rattle.tdl_mode.specs.declared.program.Program.{Program}
-use Rattle.tdl_mode.specs.States.{TaskState, ModuleState, State, Sensed, Course}
+use Rattle.tdl_base.specs.Sensed.{Sensed, Course}
+use Rattle.tdl_mode.specs.States.{TaskState, ModuleState, State}
 use Rattle.tdl_mode.specs.Phases.{has_ended, task_after, phase_one, update_value}
 use Rattle.tdl_mode.specs.Instants.{look_in, logical, state_at}
 use Rattle.tdl_trace.specs.Shown.{Shown}
 use Rattle.tdl_deploy.specs.declared.placement.Placement.{Placement}
 use Rattle.tdl_deploy.specs.Placed.{hosts, sees}
 
--- one item or none, as a list
-abbrev pub listed : {A : Type 0} → Option A → List A
-listed None = []
-listed (Some a) = a ∷ []
-
 -- ---- phase 1: outputs of tasks that ended
 
 -- a row for each output of task t of module m
 abbrev pub committed_outputs : ℕ → ℕ → ℕ → ℕ → TaskState → List Shown
-committed_outputs x node m t u = numbered 0 (λ o v. Shown.Committed x node m t o v) u.outputs
+committed_outputs x node m t u = numbered 0 (λ o v. Shown.Port x node m t o v) u.outputs
 
 -- the rows of task t of module m, where it ended at x and the node sees it
 abbrev pub task_port_rows : Program → Placement → ℕ → ℕ → ℕ → ModuleState → ℕ → TaskState → List Shown
 task_port_rows program placement node x m s t u =
-    if has_ended s x u then (if sees program placement node m u.text
+    if has_ended s x u then (if sees program placement node m u.definition
     then committed_outputs x node m t (task_after s x u) else []) else []
 
 -- the rows of all tasks of module m, by task and output
@@ -40,7 +37,7 @@ port_rows program placement node x state = joined (numbered 0 (module_port_rows 
 
 -- the row of actuator a of module m, where it was updated at x
 abbrev pub actuator_row : ℕ → ℕ → ℕ → ModuleState → Look → ℕ → ℤ → List Shown
-actuator_row x node m s look a old = listed (option_map (λ v. Shown.Updated x node m a v) (update_value s x look a))
+actuator_row x node m s look a old = option_to_list (option_map (λ v. Shown.Act x node m a v) (update_value s x look a))
 
 -- the rows of all actuators of module m, by actuator
 abbrev pub module_act_rows : ℕ → ℕ → ℕ → ModuleState → Look → List Shown
@@ -58,7 +55,7 @@ act_rows placement node x sensed state =
 
 -- the row of module m, where its mode changed
 abbrev pub module_mode_rows : ℕ → ℕ → ℕ → ModuleState → ModuleState → List Shown
-module_mode_rows x node m old new = if old.mode == new.mode then [] else Shown.Entered x node m new.mode ∷ []
+module_mode_rows x node m old new = if old.mode == new.mode then [] else Shown.Mode x node m new.mode ∷ []
 
 -- the rows of the modules of the node from number m on, in order
 abbrev pub mode_rows_from : Placement → ℕ → ℕ → ℕ → State → State → List Shown
@@ -83,7 +80,7 @@ node_rows program placement x sensed state node =
 -- at instant 0 a node shows the mode of each of its modules
 abbrev pub first_rows : Placement → State → ℕ → List Shown
 first_rows placement state node =
-    joined (numbered 0 (λ m s. if hosts placement node m then Shown.Entered 0 node m s.mode ∷ [] else []) state)
+    joined (numbered 0 (λ m s. if hosts placement node m then Shown.Mode 0 node m s.mode ∷ [] else []) state)
 
 -- the rows of one instant, node after node
 abbrev pub for_nodes : (ℕ → List Shown) → Placement → List Shown

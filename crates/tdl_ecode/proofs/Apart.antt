@@ -2,6 +2,7 @@
 use Rattle.std.proofs.Common.{◌≡◌, ℕ, suc, List, [], ◌∷◌, ◌++◌, length, get_or, drop, refl, sym, ap, ◌∙◌, append-nil}
 use Rattle.std.specs.Prelude.{Result, Ok}
 use Rattle.std.proofs.Math.Seq.{drop-append_seam}
+use Rattle.tdl_base.specs.Bytes.{IsPrefixFree}
 use Rattle.tdl_ecode.specs.declared.instr.EInstr.{EInstr}
 use Rattle.tdl_ecode.specs.declared.instr.EInstr.TheVariants.{Call, Release, End, Take, Mode, If, Jump, Future, Return}
 use Rattle.tdl_ecode.specs.declared.fault.InstrFault.{InstrFault}
@@ -26,7 +27,8 @@ length-operand_bytes (Jump n) = refl
 length-operand_bytes (Future m n) = refl
 
 -- spellings with one opcode have one length
-same_len : (i j : EInstr) (x y : List ℕ) → einstr_bytes i ++ x ≡ einstr_bytes j ++ y → length (einstr_bytes i) ≡ length (einstr_bytes j)
+same_len : (i j : EInstr) (x y : List ℕ) → einstr_bytes i ++ x ≡ einstr_bytes j ++ y →
+    length (einstr_bytes i) ≡ length (einstr_bytes j)
 same_len i j x y e =
     let first : opcode_of i ≡ opcode_of j = cc e in
     ap suc (length-operand_bytes i ∙ ap operand_len first ∙ sym (length-operand_bytes j))
@@ -42,11 +44,18 @@ pub nothing_after : (i j : EInstr) (more : List ℕ) → einstr_bytes i ++ more 
 nothing_after i j more e = same_after i j more [] (e ∙ sym (append-nil (einstr_bytes j)))
 
 -- and the instruction is the same
-pub same_instr : (i j : EInstr) (x y : List ℕ) → IsInRange i → IsInRange j → einstr_bytes i ++ x ≡ einstr_bytes j ++ y → i ≡ j
+pub same_instr : (i j : EInstr) (x y : List ℕ) → IsInRange i → IsInRange j →
+    einstr_bytes i ++ x ≡ einstr_bytes j ++ y → i ≡ j
 same_instr i j x y fits also e =
-    let read : ◌≡◌ {A = Result EInstr InstrFault} (Ok i) (Ok j) = sym (instr_again i x fits) ∙ ap instr_at e ∙ instr_again j y also in
+    let read : ◌≡◌ {A = Result EInstr InstrFault} (Ok i) (Ok j) =
+    sym (instr_again i x fits) ∙ ap instr_at e ∙ instr_again j y also in
     cc read
 
+-- so no spelling begins another one
+pub einstr-prefix_free : IsPrefixFree IsInRange einstr_bytes
+einstr-prefix_free = record { tell = λ i j x y fits also e. (same_instr i j x y fits also e, same_after i j x y e) }
+
 -- a spelled instruction is read back with its length
-pub reading-spelled : (i : EInstr) (rest : List ℕ) → IsInRange i → reading (einstr_bytes i ++ rest) ≡ Ok (i, length (einstr_bytes i))
+pub reading-spelled : (i : EInstr) (rest : List ℕ) → IsInRange i →
+    reading (einstr_bytes i ++ rest) ≡ Ok (i, length (einstr_bytes i))
 reading-spelled i rest fits = ap with_len (instr_again i rest fits)

@@ -1,4 +1,3 @@
 pub mod Apart
-pub mod Digits
 pub mod Readings
 pub mod Unfinished

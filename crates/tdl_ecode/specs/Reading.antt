@@ -1,30 +1,30 @@
 -- What bytes say when they are read as an instruction.
-use Rattle.std.specs.Prelude.{ℕ, ◌+◌, List, [], ◌∷◌, length, drop, nat_lt, if◌then◌else◌, Result, Ok, Err, slice_get, unwrap_or}
-use Rattle.std.specs.Int.{Width, byte_len, from_be_bytes, w16, w32}
+use Rattle.std.specs.Prelude.{ℕ, List, [], ◌∷◌, length, Option, Some, None, Result, Ok, Err, slice_get, unwrap_or}
+use Rattle.std.specs.Int.{Width, w16, w32}
+use Rattle.tdl_base.specs.Bytes.{number_at, pair_at}
 use Rattle.tdl_ecode.specs.declared.instr.EInstr.{EInstr}
 use Rattle.tdl_ecode.specs.declared.instr.EInstr.TheVariants.{Call, Release, End, Take, Mode, If, Jump, Future, Return}
 use Rattle.tdl_ecode.specs.Spelling.{einstr_bytes}
 use Rattle.tdl_ecode.specs.declared.fault.InstrFault.{InstrFault}
 use Rattle.tdl_ecode.specs.declared.fault.InstrFault.TheVariants.{Short, Unknown}
 
--- the number in the first bytes; `Short` where they are too few
-abbrev pub number_at : Width → List ℕ → Result ℕ InstrFault
-number_at w bytes = if nat_lt (length bytes) (byte_len w) then Err Short else Ok (from_be_bytes w bytes)
+-- what was read; `Short` where it was not there
+abbrev pub or_short : {A : Type 0} → Option A → Result A InstrFault
+or_short (Some a) = Ok a
+or_short None = Err Short
 
--- an instruction made of a number, where that was read
-abbrev pub made_of : (ℕ → EInstr) → Result ℕ InstrFault → Result EInstr InstrFault
-made_of made (Ok n) = Ok (made n)
+-- an instruction made of what was read
+abbrev pub made_of : {A : Type 0} → (A → EInstr) → Result A InstrFault → Result EInstr InstrFault
+made_of made (Ok a) = Ok (made a)
 made_of made (Err fault) = Err fault
 
 -- an instruction with one operand, read from the bytes after its opcode
 abbrev pub one : Width → (ℕ → EInstr) → List ℕ → Result EInstr InstrFault
-one w made bytes = made_of made (number_at w bytes)
+one w made bytes = made_of made (or_short (number_at w bytes))
 
 -- an instruction with two operands, read one after the other
 abbrev pub two : Width → Width → (ℕ → ℕ → EInstr) → List ℕ → Result EInstr InstrFault
-two v w made bytes =
-    if nat_lt (length bytes) (byte_len v + byte_len w) then Err Short
-    else Ok (made (from_be_bytes v bytes) (from_be_bytes w (drop (byte_len v) bytes)))
+two v w made bytes = made_of (λ read. made read.0 read.1) (or_short (pair_at v w bytes))
 
 -- what the bytes after an opcode give, for each opcode in order
 abbrev pub by_opcode : List ℕ → List (Result EInstr InstrFault)

@@ -1,6 +1,6 @@
 -- How an instruction is spelled in bytes.
-use Rattle.std.specs.Prelude.{◌≡◌, ◌≢◌, ℕ, ◌^◌, ◌<◌, List, [], ◌∷◌, ◌++◌, length, take}
-use Rattle.tdl_base.specs.Bytes.{short, word}
+use Rattle.std.specs.Prelude.{◌≡◌, ◌≢◌, ℕ, List, [], ◌∷◌, ◌++◌, length, take}
+use Rattle.tdl_base.specs.Bytes.{short, word, FitsShort, FitsWord}
 use Rattle.tdl_ecode.specs.declared.instr.EInstr.{EInstr}
 use Rattle.tdl_ecode.specs.declared.instr.EInstr.TheVariants.{Call, Release, End, Take, Mode, If, Jump, Future, Return}
 
@@ -35,14 +35,14 @@ einstr_bytes i = opcode_of i ∷ operand_bytes i
 -- each operand fits the bytes that it is spelled in
 abbrev pub IsInRange : EInstr → Type 0
 IsInRange Return = Unit {0}
-IsInRange (Call driver) = driver < 2 ^ 16
-IsInRange (Release entry) = entry < 2 ^ 16
-IsInRange (End task) = task < 2 ^ 16
-IsInRange (Take entry) = entry < 2 ^ 16
-IsInRange (Mode mode) = mode < 2 ^ 16
-IsInRange (If guard index) = (guard < 2 ^ 16) × (index < 2 ^ 32)
-IsInRange (Jump index) = index < 2 ^ 32
-IsInRange (Future delay block) = (delay < 2 ^ 32) × (block < 2 ^ 32)
+IsInRange (Call driver) = FitsShort driver
+IsInRange (Release entry) = FitsShort entry
+IsInRange (End task) = FitsShort task
+IsInRange (Take entry) = FitsShort entry
+IsInRange (Mode mode) = FitsShort mode
+IsInRange (If guard index) = FitsShort guard × FitsWord index
+IsInRange (Jump index) = FitsWord index
+IsInRange (Future delay block) = FitsWord delay × FitsWord block
 
 -- the bytes begin with the spelling of the instruction
 pub record BeginsWith (bytes : List ℕ) (i : EInstr) : Type 0 where

@@ -1,18 +1,21 @@
 ghost use Rattle.std.specs.Prelude.{◌≡◌, ◌↔◌, length, slice_get, unwrap_or, IfOk, Ok, Err};
 ghost use Rattle.std.specs.Int.{w16, w32};
+ghost use Rattle.tdl_base.specs.Bytes.{number_at};
 ghost use Rattle.tdl_ecode.specs.declared.instr.EInstr.{EInstr};
 ghost use Rattle.tdl_ecode.specs.Spelling.{einstr_bytes, BeginsWith, IsUnfinished, HasNoOpcode};
-ghost use Rattle.tdl_ecode.specs.Reading.{reading, instr_at, by_opcode, number_at, two};
+ghost use Rattle.tdl_ecode.specs.Reading.{reading, instr_at, by_opcode, or_short, two};
 
 use crate::{EInstr, InstrFault, instr_len};
+use tdl_base::bytes::{short_at, short_word_at, word_at, words_at};
 
 /// The instruction that the bytes begin with, and the length of its spelling in bytes; more bytes
 /// may follow. `Short` exactly where the bytes end before an instruction does, as no bytes at all
-/// do, and `Unknown` exactly where the first byte is no opcode. It takes no memory.
+/// do, and `Unknown` for a first byte without an instruction, and only then. It takes no memory.
 pub fn get_instr(bytes: &[u8]) -> Result<(EInstr, usize), InstrFault>
     ensures begins { IfOk result (λ r. BeginsWith bytes.now r.0) }
     ensures len { IfOk result (λ r. r.1 ≡ length (einstr_bytes r.0)) }
-    ensures only { (i : EInstr) → BeginsWith bytes.now i → result ≡ Ok (i, length (einstr_bytes i)) }
+    ensures only { (i : EInstr) → BeginsWith bytes.now i →
+        result ≡ Ok (i, length (einstr_bytes i)) }
     ensures short { (result ≡ Err InstrFault.Short) ↔ IsUnfinished bytes.now }
     ensures unknown { (result ≡ Err InstrFault.Unknown) ↔ HasNoOpcode bytes.now }
     ensures exact { result ≡ reading bytes.now }
@@ -54,45 +57,33 @@ fn read_operands(opcode: u8, bytes: &[u8]) -> Result<EInstr, InstrFault>
 }
 
 fn short(bytes: &[u8]) -> Result<u16, InstrFault>
-    ensures { result ≡ number_at w16 bytes.now }
+    ensures { result ≡ or_short (number_at w16 bytes.now) }
 {
-    match bytes {
-        [a, b, ..] => Ok(u16::from_be_bytes([*a, *b])),
-        _ => Err(InstrFault::Short),
-    }
+    short_at(bytes).ok_or(InstrFault::Short)
 }
 
 fn word(bytes: &[u8]) -> Result<u32, InstrFault>
-    ensures { result ≡ number_at w32 bytes.now }
+    ensures { result ≡ or_short (number_at w32 bytes.now) }
 {
-    match bytes {
-        [a, b, c, d, ..] => Ok(u32::from_be_bytes([*a, *b, *c, *d])),
-        _ => Err(InstrFault::Short),
-    }
+    word_at(bytes).ok_or(InstrFault::Short)
 }
 
 fn read_if(bytes: &[u8]) -> Result<EInstr, InstrFault>
     ensures { result ≡ two w16 w32 EInstr.If bytes.now }
 {
-    match bytes {
-        [a, b, c, d, e, f, ..] => Ok(EInstr::If(
-            u16::from_be_bytes([*a, *b]),
-            u32::from_be_bytes([*c, *d, *e, *f]),
-        )),
-        _ => Err(InstrFault::Short),
-    }
+    let Some((guard, index)) = short_word_at(bytes) else {
+        return Err(InstrFault::Short);
+    };
+    Ok(EInstr::If(guard, index))
 }
 
 fn read_future(bytes: &[u8]) -> Result<EInstr, InstrFault>
     ensures { result ≡ two w32 w32 EInstr.Future bytes.now }
 {
-    match bytes {
-        [a, b, c, d, e, f, g, h, ..] => Ok(EInstr::Future(
-            u32::from_be_bytes([*a, *b, *c, *d]),
-            u32::from_be_bytes([*e, *f, *g, *h]),
-        )),
-        _ => Err(InstrFault::Short),
-    }
+    let Some((delay, block)) = words_at(bytes) else {
+        return Err(InstrFault::Short);
+    };
+    Ok(EInstr::Future(delay, block))
 }
 
 #[cfg(test)]

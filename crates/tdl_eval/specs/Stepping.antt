@@ -3,25 +3,26 @@ use Rattle.std.specs.Prelude.{◌≡◌, ℕ, zero, suc, ◌+◌, ◌*◌, ◌<�
 use Rattle.tdl_base.specs.Numbers.{is_true, unary, binary}
 use Rattle.tdl_stack.specs.declared.instr.Instr.{Instr}
 use Rattle.tdl_stack.specs.declared.instr.Instr.TheVariants.{Const, Load, Store, Un, Bin, Jz, Jmp, Rep}
-use Rattle.tdl_stack.specs.Running.{Look, State, exec, read, stored, top, popped, pushed, repeated}
+use Rattle.tdl_base.specs.Cells.{stored, repeated}
+use Rattle.tdl_stack.specs.Running.{Outer, StackState, exec, loaded, top, popped, pushed}
 use Rattle.tdl_eval.specs.declared.step.Next.{Next}
 use Rattle.tdl_eval.specs.declared.step.Next.TheVariants.{Skip, Repeat}
 use Rattle.tdl_eval.specs.declared.run.Repetition.{Repetition}
 use Rattle.tdl_eval.specs.declared.run.Run.{Run}
 
 -- what an instruction does by itself
-abbrev pub stepped : Look → Instr → State → State
-stepped look (Const v) s = pushed v s
-stepped look (Load place) s = pushed (read look place s.cells) s
-stepped look (Store k) s = record (popped s) { cells = stored k (top s) s.cells }
-stepped look (Un op) s = pushed (unary op (top s)) (popped s)
-stepped look (Bin op) s = pushed (binary op (top (popped s)) (top s)) (popped (popped s))
-stepped look (Jz n) s = popped s
-stepped look (Jmp n) s = s
-stepped look (Rep n k) s = s
+abbrev pub stepped : Outer → Instr → StackState → StackState
+stepped outer (Const v) s = pushed v s
+stepped outer (Load place) s = pushed (loaded outer place s.cells) s
+stepped outer (Store k) s = record (popped s) { cells = stored k (top s) s.cells }
+stepped outer (Un op) s = pushed (unary op (top s)) (popped s)
+stepped outer (Bin op) s = pushed (binary op (top (popped s)) (top s)) (popped (popped s))
+stepped outer (Jz n) s = popped s
+stepped outer (Jmp n) s = s
+stepped outer (Rep n k) s = s
 
 -- what is next after an instruction
-abbrev pub next_of : Instr → State → Next
+abbrev pub next_of : Instr → StackState → Next
 next_of (Const v) s = Skip 0
 next_of (Load place) s = Skip 0
 next_of (Store k) s = Skip 0
@@ -31,18 +32,18 @@ next_of (Jz n) s = Skip (if is_true (top s) then 0 else n)
 next_of (Jmp n) s = Skip n
 next_of (Rep n k) s = Repeat n k
 
--- what a repetition under way still does: its turns, and then what stands behind it
-abbrev pub repetition_end : Look → Repetition → State → State
-repetition_end look r s = exec look r.code.now r.left r.count (repeated r.times (exec look r.code.now r.count 0) s)
+-- what a repetition under way still does: its turns, and then what stands after it
+abbrev pub repetition_end : Outer → Repetition → StackState → StackState
+repetition_end outer r s = exec outer r.code.now r.left r.count (repeated r.times (exec outer r.code.now r.count 0) s)
 
 -- what repetitions under way still do, the innermost first
-abbrev pub repetitions_end : Look → List Repetition → State → State
-repetitions_end look [] s = s
-repetitions_end look (r ∷ rs) s = repetitions_end look rs (repetition_end look r s)
+abbrev pub repetitions_end : Outer → List Repetition → StackState → StackState
+repetitions_end outer [] s = s
+repetitions_end outer (r ∷ rs) s = repetitions_end outer rs (repetition_end outer r s)
 
 -- where a code that is run ends
-abbrev pub end_of : Look → Run → State
-end_of look run = repetitions_end look run.under_way (exec look run.code.now run.left 0 run.job)
+abbrev pub end_of : Outer → Run → StackState
+end_of outer run = repetitions_end outer run.under_way (exec outer run.code.now run.left 0 run.job)
 
 -- no instruction is next
 abbrev pub IsAtEnd : Run → Type 0
@@ -76,11 +77,11 @@ abbrev pub steps_of : Run → ℕ
 steps_of run = steps run.code.now run.left 0 + repetitions_steps run.under_way
 
 -- a step that goes on: the same end, and fewer steps to it
-pub record IsNearer (look : Look) (old new : Run) : Type 0 where
-  pub same : end_of look new ≡ end_of look old
+pub record IsNearer (outer : Outer) (old new : Run) : Type 0 where
+  pub same : end_of outer new ≡ end_of outer old
   pub fewer : steps_of new < steps_of old
 
 -- a step: where it goes on it comes nearer to the end, and otherwise the end was reached
-abbrev pub IsStep : Look → Run → Run → Bool → Type 0
-IsStep look old new true = IsNearer look old new
-IsStep look old new false = new.job ≡ end_of look old
+abbrev pub IsStep : Outer → Run → Run → Bool → Type 0
+IsStep outer old new true = IsNearer outer old new
+IsStep outer old new false = new.job ≡ end_of outer old

@@ -1,5 +1,5 @@
 ghost use Rattle.std.specs.Prelude.{◌≡◌, IfOk, OnOk};
-ghost use Rattle.tdl_stack.specs.Running.{number_of, cells_after};
+ghost use Rattle.tdl_stack.specs.Running.{code_value, cells_after};
 
 use crate::View;
 use crate::job::Job;
@@ -12,7 +12,7 @@ use tdl_stack::Code;
 
 /// The number of an expression. Every code has one: an empty stack gives 0, and so does a cell.
 pub fn number<V: View>(alloc: Global, code: &Code, view: &V) -> Result<i64, NoMemory>
-    ensures { IfOk result (λ number. number ≡ number_of (V.look view.now) code.now.instrs) }
+    ensures { IfOk result (λ number. number ≡ code_value (V.outer view.now) code.now.instrs) }
 {
     let job = Job::new(alloc, &[], Listed::new(alloc));
     let mut run = Run::new(alloc, code.instrs.as_slice(), job);

@@ -1,5 +1,6 @@
 ghost use Rattle.std.specs.Prelude.{◌≡◌, OnOk, pos, slice_index_or};
-ghost use Rattle.tdl_stack.specs.Running.{at_first, pushed, popped, top, stored};
+ghost use Rattle.tdl_base.specs.Cells.{stored};
+ghost use Rattle.tdl_stack.specs.Running.{at_first, pushed, popped, top};
 
 use crate::stack::Stack;
 use std::alloc::Global;
@@ -15,9 +16,9 @@ pub(crate) struct Job<'a> {
 }
 
 impl<'a> Model for Job<'a> {
-    ghost use Rattle.tdl_stack.specs.Running.{State};
+    ghost use Rattle.tdl_stack.specs.Running.{StackState};
 
-    ghost Value = { State };
+    ghost Value = { StackState };
 
     ghost view = { λ j. record {
       stack = j.stack;

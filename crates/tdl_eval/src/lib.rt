@@ -1,6 +1,6 @@
 //! Runs stack code on a stack that grows: the number of an expression, and what a body does to the
 //! cells of a job. Every code is run, also one that pops from an empty stack or stores where there
-//! is no cell.
+//! is no cell. It goes once checked stack code stands, which needs no such answers.
 #![tactic(auto)]
 
 mod evaluate;

@@ -1,5 +1,5 @@
 ghost use Rattle.std.specs.Prelude.{◌≡◌, OnOk, IfOk, drop, length};
-ghost use Rattle.tdl_stack.specs.Running.{Look, exec};
+ghost use Rattle.tdl_stack.specs.Running.{Outer, exec};
 ghost use Rattle.tdl_eval.specs.Stepping.{end_of, IsAtEnd, IsStep};
 
 use crate::View;
@@ -10,7 +10,7 @@ use std::alloc::Global;
 use tdl_base::NoMemory;
 use tdl_stack::Instr;
 
-/// A repetition under way: the code behind its instruction, how many instructions of that code are
+/// A repetition under way: the code after its instruction, how many instructions of that code are
 /// run, how many are repeated, and how many times more.
 #[derive(Clone, Copy)]
 pub(crate) struct Repetition<'a> {
@@ -33,8 +33,8 @@ pub(crate) struct Run<'a> {
 impl<'a> Run<'a> {
     /// A whole code that begins on a job.
     pub(crate) fn new(alloc: Global, code: &'a [Instr], job: Job<'a>) -> Run<'a>
-        ensures { (look : Look) → end_of look result
-            ≡ exec look code.entry.now (length code.entry.now) 0 job.entry }
+        ensures { (outer : Outer) → end_of outer result
+            ≡ exec outer code.entry.now (length code.entry.now) 0 job.entry }
     {
         Run {
             code,
@@ -46,7 +46,7 @@ impl<'a> Run<'a> {
 
     /// Runs to the end.
     pub(crate) fn finish<V: View>(&mut self, view: &V) -> Result<(), NoMemory>
-        ensures { OnOk result (self.new.job ≡ end_of (V.look view.now) self.old) }
+        ensures { OnOk result (self.new.job ≡ end_of (V.outer view.now) self.old) }
     {
         while self.go_on(view)? {}
         Ok(())
@@ -65,9 +65,10 @@ impl<'a> Run<'a> {
         job
     }
 
-    /// Does the next instruction, or goes on with the innermost repetition. False where all is done.
+    /// Does the next instruction, or goes on with the innermost repetition. False where all is
+    /// done.
     fn go_on<V: View>(&mut self, view: &V) -> Result<bool, NoMemory>
-        ensures { IfOk result (IsStep (V.look view.now) self.old self.new) }
+        ensures { IfOk result (IsStep (V.outer view.now) self.old self.new) }
     {
         if self.left == 0 {
             return self.repeat();
@@ -78,7 +79,7 @@ impl<'a> Run<'a> {
         let left = self.left - 1;
         match step(*first, view, &mut self.job)? {
             Next::Skip(count) => {
-                self.code = behind(others, count);
+                self.code = after(others, count);
                 self.left = left.saturating_sub(count);
                 Ok(true)
             }
@@ -95,11 +96,12 @@ impl<'a> Run<'a> {
         }
     }
 
-    /// Begins the next turn of the innermost repetition, or goes on behind it after its last one.
+    /// Begins the next turn of the innermost repetition, or goes on after it after its last one.
     /// False where no repetition is under way.
     fn repeat(&mut self) -> Result<bool, NoMemory>
         requires { IsAtEnd self.old }
-        ensures { IfOk result (λ goes_on. (look : Look) → IsStep look self.old self.new goes_on) }
+        ensures { IfOk result
+            (λ goes_on. (outer : Outer) → IsStep outer self.old self.new goes_on) }
     {
         let Some(repetition) = self.under_way.pop() else {
             return Ok(false);
@@ -111,7 +113,7 @@ impl<'a> Run<'a> {
             times,
         } = repetition;
         if times == 0 {
-            self.code = behind(code, count);
+            self.code = after(code, count);
             self.left = left.saturating_sub(count);
             return Ok(true);
         }
@@ -126,7 +128,7 @@ impl<'a> Run<'a> {
 }
 
 /// The instructions but for the first `count`.
-fn behind(code: &[Instr], count: usize) -> &[Instr]
+fn after(code: &[Instr], count: usize) -> &[Instr]
     ensures { result.now ≡ drop count code.now }
 {
     code.get(count..).unwrap_or(&[])

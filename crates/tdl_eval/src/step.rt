@@ -1,5 +1,5 @@
 ghost use Rattle.std.specs.Prelude.{◌≡◌, OnOk, IfOk};
-ghost use Rattle.tdl_stack.specs.Running.{read};
+ghost use Rattle.tdl_stack.specs.Running.{loaded};
 ghost use Rattle.tdl_eval.specs.Stepping.{stepped, next_of};
 
 use crate::View;
@@ -9,17 +9,17 @@ use tdl_stack::Instr;
 
 /// What is next after an instruction.
 pub(crate) enum Next {
-    /// What stands behind it, but for so many instructions.
+    /// What stands after it, but for so many instructions.
     Skip(usize),
-    /// So many times the instructions behind it, of which the second number says how many, and then
-    /// what stands behind these.
+    /// So many times the instructions after it, of which the second number says how many, and then
+    /// what stands after these.
     Repeat(u16, usize),
 }
 
 /// Does one instruction, and tells what is next. A repetition is only told.
 pub(crate) fn step<V: View>(instr: Instr, view: &V, job: &mut Job) -> Result<Next, NoMemory>
     ensures next { IfOk result (λ next. next ≡ next_of instr job.old) }
-    ensures job { OnOk result (job.new ≡ stepped (V.look view.now) instr job.old) }
+    ensures job { OnOk result (job.new ≡ stepped (V.outer view.now) instr job.old) }
 {
     match instr {
         Instr::Const(v) => job.push(v)?,
@@ -49,7 +49,7 @@ pub(crate) fn step<V: View>(instr: Instr, view: &V, job: &mut Job) -> Result<Nex
 
 /// What stands at a place; 0 where there is no such cell.
 fn read<V: View>(place: Place, view: &V, job: &Job) -> i64
-    ensures { result ≡ read (V.look view.now) place job.now.cells }
+    ensures { result ≡ loaded (V.outer view.now) place job.now.cells }
 {
     match place {
         Place::Sensor(number) => view.sensor(number),

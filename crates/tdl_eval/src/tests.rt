@@ -10,7 +10,7 @@ use tdl_stack::{Code, Instr};
 struct SevenAndNine;
 
 impl View for SevenAndNine {
-    ghost look = { λ _. record { sensor = λ k. pos 7; port = λ key. pos 9 } };
+    ghost outer = { λ _. record { sensor = λ k. pos 7; port = λ key. pos 9 } };
 
     fn sensor(&self, _number: u16) -> i64 {
         7
@@ -54,6 +54,10 @@ const ADD_SIX_TIMES: [Instr; 6] = [
     STORE_O,
 ];
 
+const REP_NEVER: [Instr; 3] = [Instr::Rep(0, 2), Instr::Const(5), Instr::Store(0)];
+
+const JUMP_PAST_THE_END: [Instr; 3] = [Instr::Jmp(9), Instr::Const(5), Instr::Store(0)];
+
 fn code_of(alloc: Global, instrs: &[Instr]) -> Result<Code, NoMemory> {
     let mut list = Listed::new(alloc);
     for i in instrs {
@@ -87,18 +91,8 @@ fn bodies(rt: HostRuntime) -> Result<(), Fail> {
         (ADD_SIX_TIMES.as_slice(), 4, 10, [4, 34]),
         (ADD.as_slice(), 1, 2_147_483_647, [1, -2_147_483_648]),
         ([].as_slice(), 3, 4, [3, 4]),
-        (
-            [Instr::Rep(0, 2), Instr::Const(5), Instr::Store(0)].as_slice(),
-            3,
-            4,
-            [3, 4],
-        ),
-        (
-            [Instr::Jmp(9), Instr::Const(5), Instr::Store(0)].as_slice(),
-            3,
-            4,
-            [3, 4],
-        ),
+        (REP_NEVER.as_slice(), 3, 4, [3, 4]),
+        (JUMP_PAST_THE_END.as_slice(), 3, 4, [3, 4]),
         ([Instr::Const(5), Instr::Store(2)].as_slice(), 3, 4, [3, 4]),
         ([Instr::Store(1)].as_slice(), 3, 4, [3, 0]),
         (

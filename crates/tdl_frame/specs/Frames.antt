@@ -1,6 +1,7 @@
 -- Frames: what they carry, and their bytes.
 use Rattle.std.specs.Prelude.{ℕ, ℤ, Bool, List, [], ◌∷◌, ◌++◌, flat_map, if◌then◌else◌}
 use Rattle.std.specs.Int.{w8, w16, w32, w64, Width, to_be_bytes, cast_unsigned}
+use Rattle.tdl_base.specs.Bytes.{short}
 use Rattle.tdl_base.specs.declared.kinds.Kind.{Kind}
 use Rattle.tdl_base.specs.declared.kinds.Kind.TheVariants.{Boolean, Byte, Short, Int, Long}
 
@@ -36,8 +37,8 @@ numbers_bytes kinds vs = []
 
 -- the invocation, a byte that says whether the job was executed, and the outputs
 abbrev pub member_bytes : Member → List ℕ
-member_bytes m = to_be_bytes w16 m.invocation ++ (if m.executed then 1 else 0) ∷ [] ++ numbers_bytes m.kinds m.values
+member_bytes m = short m.invocation ++ (if m.executed then 1 else 0) ∷ [] ++ numbers_bytes m.kinds m.values
 
 -- the module, the mode and the members
 abbrev pub frame_bytes : Frame → List ℕ
-frame_bytes f = to_be_bytes w16 f.owner ++ to_be_bytes w16 f.mode ++ flat_map member_bytes f.members
+frame_bytes f = short f.owner ++ short f.mode ++ flat_map member_bytes f.members

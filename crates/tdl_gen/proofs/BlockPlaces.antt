@@ -6,9 +6,10 @@ use Rattle.std.proofs.lemmas.Bool.{eqb-true, or_left, or_right, and_parts, and_f
 use Rattle.std.proofs.Math.Bool.{or_self_left}
 use Rattle.std.proofs.lemmas.Bool.Decides.{nat_tests}
 use Rattle.std.proofs.lemmas.List.Folds.{list_any-append}
+use Rattle.tdl_base.specs.Lists.{inserted}
 use Rattle.tdl_mode.specs.declared.program.Module.{Module}
 use Rattle.tdl_mode.specs.declared.program.Mode.{Mode}
-use Rattle.tdl_mode.specs.Offsets.{inserted, ascending, offset_list, offsets, is_offset}
+use Rattle.tdl_mode.specs.Offsets.{ascending, offset_list, offsets, is_offset}
 use Rattle.tdl_gen.specs.BlockNames.{BlockName, names_at, block_names, is_same, place, block_number}
 use Rattle.tdl_gen.specs.Blocks.{block_of, blocks_of, mode_block}
 pub use Rattle.tdl_base.proofs.Among.{any-joined}
@@ -59,23 +60,39 @@ swap_or true true c = refl
 swap_or true false c = refl
 swap_or false b c = refl
 
--- an offset that passes is among offsets with one inserted where it is that one or among them
-pub any-inserted : (q : ℕ → Bool) (o : ℕ) (os : List ℕ) → list_any q (inserted o os) ≡ (q o || list_any q os)
-any-inserted q o [] = refl
-any-inserted q o (p ∷ ps) = by_order (any-inserted q o ps) (nat_lt o p) (o == p) refl
+-- an item that passes is among items with one inserted where it is that one or among them
+pub any-inserted : {A : Type 0} (before : A → A → Bool) (q : A → Bool) (x : A) (ys : List A) →
+    list_any q (inserted before x ys) ≡ (q x || list_any q ys)
+any-inserted before q x [] = refl
+any-inserted before q x (y ∷ ys) = by_order (any-inserted before q x ys) (before x y)
   where
-    by_order : list_any q (inserted o ps) ≡ (q o || list_any q ps) → (less equal : Bool) → (o == p) ≡ equal →
-        list_any q (if less then o ∷ p ∷ ps else (if equal then p ∷ ps else p ∷ inserted o ps)) ≡
-        (q o || (q p || list_any q ps))
-    by_order rest true equal e = refl
-    by_order rest false true e = let same : o ≡ p = eqb-true o p e in
-        sym (ap (λ n. q n || (q p || list_any q ps)) same ∙ or_self_left (q p) (list_any q ps))
-    by_order rest false false e = ap (λ b. q p || b) rest ∙ swap_or (q p) (q o) (list_any q ps)
+    by_order : list_any q (inserted before x ys) ≡ (q x || list_any q ys) → (first : Bool) →
+        list_any q (if first then x ∷ y ∷ ys else y ∷ inserted before x ys) ≡ (q x || (q y || list_any q ys))
+    by_order rest true = refl
+    by_order rest false = ap (λ b. q y || b) rest ∙ swap_or (q y) (q x) (list_any q ys)
+
+-- a number that is among others changes nothing of what passes among them
+any-there : (q : ℕ → Bool) (o : ℕ) (os : List ℕ) → list_any (λ p. p == o) os ≡ true →
+    (q o || list_any q os) ≡ list_any q os
+any-there q o [] there = cc
+any-there q o (p ∷ ps) there = by_first (any-there q o ps) (p == o) refl there
+  where
+    by_first : (list_any (λ n. n == o) ps ≡ true → (q o || list_any q ps) ≡ list_any q ps) → (same : Bool) →
+        (p == o) ≡ same → (same || list_any (λ n. n == o) ps) ≡ true →
+        (q o || (q p || list_any q ps)) ≡ (q p || list_any q ps)
+    by_first rest true is h = let same : p ≡ o = eqb-true p o is in
+        ap (λ n. q n || (q p || list_any q ps)) (sym same) ∙ or_self_left (q p) (list_any q ps)
+    by_first rest false is h = swap_or (q o) (q p) (list_any q ps) ∙ ap (λ b. q p || b) (rest h)
 
 -- an offset that passes is among ascending offsets where it is among them in any order
 pub any-ascending : (q : ℕ → Bool) (os : List ℕ) → list_any q (ascending os) ≡ list_any q os
 any-ascending q [] = refl
-any-ascending q (o ∷ os) = any-inserted q o (ascending os) ∙ ap (λ b. q o || b) (any-ascending q os)
+any-ascending q (o ∷ os) = by_there (any-ascending q os) (list_any (λ p. p == o) os) refl
+  where
+    by_there : list_any q (ascending os) ≡ list_any q os → (there : Bool) → list_any (λ p. p == o) os ≡ there →
+        list_any q (if there then ascending os else inserted nat_lt o (ascending os)) ≡ (q o || list_any q os)
+    by_there rest true e = rest ∙ sym (any-there q o os e)
+    by_there rest false e = any-inserted nat_lt q o (ascending os) ∙ ap (λ b. q o || b) rest
 
 -- ---- the blocks of a module
 
@@ -103,43 +120,42 @@ module _ (m : Module) (k o : ℕ) (mode : Mode) (at : slice_get m.modes k ≡ So
     above : 0 < o → nat_lt 0 o ≡ true
     above h = grind (arith, nat_tests, h)
 
+    -- the block of a name of this offset
+    found : (name : BlockName) → block_of m name ≡ mode_block m (slice_get m.modes k) name →
+        list_any (is_same name) (names_at k mode o) ≡ true →
+        slice_get (blocks_of m) (block_number m name) ≡ Some (mode_block m (Some mode) name)
+    found name is among =
+        block_found m name (is_named m k o mode name at here among)
+        ∙ ap Some (is ∙ ap (λ d. mode_block m d name) at)
+
     -- the block that ends jobs
     pub ends_found : 0 < o → slice_get (blocks_of m) (block_number m (BlockName.Ends k o)) ≡
         Some (mode_block m (Some mode) (BlockName.Ends k o))
     ends_found h =
-        block_found m (BlockName.Ends k o) (is_named m k o mode (BlockName.Ends k o) at here
-        (rw (above h) (or_left (is_same (BlockName.Ends k o) (BlockName.Ends k o)) _
-        (is_same-self (BlockName.Ends k o)))))
-        ∙ ap (λ d. Some (mode_block m d (BlockName.Ends k o))) at
+        let name : BlockName = BlockName.Ends k o in
+        found name refl (rw (above h) (or_left (is_same name name) _ (is_same-self name)))
 
     -- the block of the updates
     pub updates_found : 0 < o → slice_get (blocks_of m) (block_number m (BlockName.Updates k o)) ≡
         Some (mode_block m (Some mode) (BlockName.Updates k o))
     updates_found h =
-        block_found m (BlockName.Updates k o) (is_named m k o mode (BlockName.Updates k o) at here
-        (rw (above h) (or_left (is_same (BlockName.Updates k o) (BlockName.Updates k o)) _
-        (is_same-self (BlockName.Updates k o)))))
-        ∙ ap (λ d. Some (mode_block m d (BlockName.Updates k o))) at
+        let name : BlockName = BlockName.Updates k o in
+        found name refl (rw (above h) (or_left (is_same name name) _ (is_same-self name)))
 
     -- the block of the switches
     pub switches_found : 0 < o → slice_get (blocks_of m) (block_number m (BlockName.Switches k o)) ≡
         Some (mode_block m (Some mode) (BlockName.Switches k o))
     switches_found h =
-        block_found m (BlockName.Switches k o) (is_named m k o mode (BlockName.Switches k o) at here
-        (rw (above h) (or_left (is_same (BlockName.Switches k o) (BlockName.Switches k o)) _
-        (is_same-self (BlockName.Switches k o)))))
-        ∙ ap (λ d. Some (mode_block m d (BlockName.Switches k o))) at
+        let name : BlockName = BlockName.Switches k o in
+        found name refl (rw (above h) (or_left (is_same name name) _ (is_same-self name)))
 
     -- the block of the starts, at an offset below the period
     pub starts_found : o < mode.period.0 → slice_get (blocks_of m) (block_number m (BlockName.Starts k o)) ≡
         Some (mode_block m (Some mode) (BlockName.Starts k o))
     starts_found h =
+        let name : BlockName = BlockName.Starts k o in
         let below : nat_lt o mode.period.0 ≡ true = grind (arith, nat_tests, h) in
-        block_found m (BlockName.Starts k o) (is_named m k o mode (BlockName.Starts k o) at here
-        (list_any-append (is_same (BlockName.Starts k o))
-        (if nat_lt 0 o then BlockName.Ends k o ∷ BlockName.Updates k o ∷ BlockName.Switches k o ∷ [] else []) _
-        ∙ or_right (list_any (is_same (BlockName.Starts k o))
-        (if nat_lt 0 o then BlockName.Ends k o ∷ BlockName.Updates k o ∷ BlockName.Switches k o ∷ [] else [])) _
-        (rw below (or_left (is_same (BlockName.Starts k o) (BlockName.Starts k o)) false
-        (is_same-self (BlockName.Starts k o))))))
-        ∙ ap (λ d. Some (mode_block m d (BlockName.Starts k o))) at
+        let first : List BlockName =
+        if nat_lt 0 o then BlockName.Ends k o ∷ BlockName.Updates k o ∷ BlockName.Switches k o ∷ [] else [] in
+        found name refl (list_any-append (is_same name) first _
+        ∙ or_right (list_any (is_same name) first) _ (rw below (or_left (is_same name name) false (is_same-self name))))

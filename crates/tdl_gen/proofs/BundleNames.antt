@@ -1,8 +1,8 @@
 -- The names of the compiler's bundle are the names of the program and its placement.
 use Rattle.std.proofs.Common.{◌≡◌, ℕ, zero, suc, ◌+◌, ◌<◌, List, [], ◌∷◌, ◌++◌, map, length, Bool, true, false, ◌||◌, refl, ap, ap₂, sym, ◌∙◌, arith}
-use Rattle.std.specs.Prelude.{slice_get, option_map, unwrap_or, if◌then◌else◌, nat_le}
+use Rattle.std.specs.Prelude.{slice_get, option_map, unwrap_or, if◌then◌else◌, nat_lt}
 use Rattle.std.proofs.lemmas.Bool.Decides.{nat_tests}
-use Rattle.tdl_base.specs.Lists.{joined, numbered}
+use Rattle.tdl_base.specs.Lists.{joined, numbered, inserted}
 use Rattle.std.proofs.lemmas.Bool.{or_left, or_right}
 use Rattle.tdl_mode.specs.declared.program.Program.{Program}
 use Rattle.tdl_mode.specs.declared.program.Module.{Module}
@@ -17,7 +17,7 @@ use Rattle.tdl_deploy.specs.Placed.{hosts}
 use Rattle.tdl_deploy.specs.Named.{named, task_names, host_from, module_names, names_of}
 use Rattle.tdl_deploy.specs.Passes.{WellPlaced}
 use Rattle.tdl_image.specs.declared.bundle.Image.{Image}
-use Rattle.tdl_verify.specs.Texts.{sensor_named, port_named, table_names, hosted_names, names_placed, names_sorted, bundle_names}
+use Rattle.tdl_verify.specs.Texts.{sensor_named, port_named, table_names, hosted_names, names_sorted, bundle_names, is_named_before}
 use Rattle.tdl_gen.specs.Tables.{kind_names, initials, task_table, hosted_of}
 use Rattle.tdl_gen.specs.Realises.{bundle_of, image_of}
 
@@ -26,12 +26,12 @@ use Rattle.tdl_gen.specs.Realises.{bundle_of, image_of}
 -- names, each in its place among those of ascending number, the last one first
 abbrev all_placed : List ModuleNames → List ModuleNames → List ModuleNames
 all_placed [] names = names
-all_placed (n ∷ ns) names = names_placed n (all_placed ns names)
+all_placed (n ∷ ns) names = inserted is_named_before n (all_placed ns names)
 
 -- names in front of others are sorted by their places among these
 names_sorted-append : (ns ks : List ModuleNames) → names_sorted (ns ++ ks) ≡ all_placed ns (names_sorted ks)
 names_sorted-append [] ks = refl
-names_sorted-append (n ∷ ns) ks = ap (names_placed n) (names_sorted-append ns ks)
+names_sorted-append (n ∷ ns) ks = ap (inserted is_named_before n) (names_sorted-append ns ks)
 
 -- all these modules have greater numbers
 abbrev Above : ℕ → List ModuleNames → Type 0
@@ -39,25 +39,26 @@ Above j [] = Unit {0}
 Above j (n ∷ ns) = (j < n.number.0) × Above j ns
 
 -- the names of a module below all others stand first
-names_placed-first : (n : ModuleNames) (ks : List ModuleNames) → Above n.number.0 ks → names_placed n ks ≡ n ∷ ks
+names_placed-first : (n : ModuleNames) (ks : List ModuleNames) → Above n.number.0 ks →
+    inserted is_named_before n ks ≡ n ∷ ks
 names_placed-first n [] above = refl
 names_placed-first n (k ∷ ks) above =
-    ap (λ t. if t then k ∷ names_placed n ks else n ∷ k ∷ ks) (greater k.number.0 n.number.0 above.0)
+    ap (λ t. if t then n ∷ k ∷ ks else k ∷ inserted is_named_before n ks) (less n.number.0 k.number.0 above.0)
   where
-    greater : (a b : ℕ) → b < a → nat_le a b ≡ false
-    greater a b lt = grind (arith, nat_tests, lt)
-
--- the names of modules above another stand behind it
-all_placed-behind : (k : ModuleNames) (ns ks : List ModuleNames) → Above k.number.0 ns →
-    all_placed ns (k ∷ ks) ≡ k ∷ all_placed ns ks
-all_placed-behind k [] ks above = refl
-all_placed-behind k (n ∷ ns) ks above =
-    ap (names_placed n) (all_placed-behind k ns ks above.1)
-    ∙ ap (λ t. if t then k ∷ names_placed n (all_placed ns ks) else n ∷ k ∷ all_placed ns ks)
-    (less k.number.0 n.number.0 above.0)
-  where
-    less : (a b : ℕ) → a < b → nat_le a b ≡ true
+    less : (a b : ℕ) → a < b → nat_lt a b ≡ true
     less a b lt = grind (arith, nat_tests, lt)
+
+-- the names of modules above another stand after it
+all_placed-after : (k : ModuleNames) (ns ks : List ModuleNames) → Above k.number.0 ns →
+    all_placed ns (k ∷ ks) ≡ k ∷ all_placed ns ks
+all_placed-after k [] ks above = refl
+all_placed-after k (n ∷ ns) ks above =
+    ap (inserted is_named_before n) (all_placed-after k ns ks above.1)
+    ∙ ap (λ t. if t then n ∷ k ∷ all_placed ns ks else k ∷ inserted is_named_before n (all_placed ns ks))
+    (greater n.number.0 k.number.0 above.0)
+  where
+    greater : (a b : ℕ) → b < a → nat_lt a b ≡ false
+    greater a b lt = grind (arith, nat_tests, lt)
 
 -- ---- the node of a module
 
@@ -170,10 +171,10 @@ module _ (p : Program) (pl : Placement) (s : Schedule) (placed : WellPlaced p pl
           (if t || u then name ∷ [] else []) ++ more (λ k. a k || b k)
       by_tests true true not_both rest = absurd (not_both refl refl)
       by_tests true false not_both rest =
-          ap (names_placed name) rest
+          ap (inserted is_named_before name) rest
           ∙ names_placed-first name (more (λ k. a k || b k)) (chosen-above (λ k. a k || b k) n (suc n) ms (omega arith))
       by_tests false true not_both rest =
-          all_placed-behind name (more a) (more b) (chosen-above a n (suc n) ms (omega arith))
+          all_placed-after name (more a) (more b) (chosen-above a n (suc n) ms (omega arith))
           ∙ ap (λ ns. name ∷ ns) rest
       by_tests false false not_both rest = rest
 
@@ -199,7 +200,7 @@ module _ (p : Program) (pl : Placement) (s : Schedule) (placed : WellPlaced p pl
   on_some j zero k = false
   on_some j (suc count) k = hosts pl j k || on_some (suc j) count k
 
-  -- a module on a node is on none of the nodes behind it
+  -- a module on a node is on none of the nodes after it
   on_some-not : (i j count k : ℕ) → i < j → hosts pl i k ≡ true → on_some j count k ≡ true → ⊥
   on_some-not i j zero k lt here some = cc some
   on_some-not i j (suc count) k lt here some =

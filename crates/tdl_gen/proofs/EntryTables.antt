@@ -1,5 +1,5 @@
 -- The receive entries of the compiler's stubs: where each comes from, and that its block is its own.
-use Rattle.std.proofs.Common.{◌≡◌, ℕ, zero, suc, ◌+◌, ◌-◌, List, [], ◌∷◌, ◌++◌, map, Bool, true, false, ◌==◌, Some, refl, ap, ap₂, sym, ◌∙◌, subst, inl, inr, arith}
+use Rattle.std.proofs.Common.{◌≡◌, ℕ, zero, suc, ◌+◌, ◌-◌, ◌≤◌, List, [], ◌∷◌, ◌++◌, map, Bool, true, false, ◌==◌, Some, refl, ap, ap₂, sym, ◌∙◌, subst, inl, inr, arith}
 use Rattle.std.specs.Prelude.{◌⊎◌, slice_get, option_map, if◌then◌else◌}
 use Rattle.std.proofs.lemmas.Bool.{eqb-true}
 use Rattle.std.proofs.lemmas.Option.{slice_get-map, same_Some}
@@ -13,8 +13,9 @@ use Rattle.tdl_deploy.specs.declared.placement.Placement.{Placement}
 use Rattle.tdl_deploy.specs.declared.schedule.Schedule.{Schedule}
 use Rattle.tdl_deploy.specs.Placed.{is_remote}
 use Rattle.tdl_image.specs.declared.stub.Receive.{Receive}
-use Rattle.tdl_gen.specs.Tables.{bus_end, receives_in, receives, take_block, stub_of}
-use Rattle.tdl_gen.proofs.Takes.{OwnBlocks}
+use Rattle.tdl_gen.specs.Tables.{bus_end, delta_of, receives_in, receives, take_block, stub_of}
+use Rattle.tdl_gen.specs.Takes.{OwnBlocks, IsDueAtEnd}
+use Rattle.tdl_mode.specs.States.{invocation_of}
 use Rattle.tdl_base.proofs.ListPlaces.{In}
 
 -- an item of two lists is one of the first or one of the second
@@ -49,10 +50,11 @@ in-joined f n (x ∷ xs) b i = by_side (in-either b (f n x) (joined (numbered (s
         record { place = suc r.place; item = r.item; at = r.at; within = subst (λ k. In b (f k r.item)) z r.within }
 
 -- where an entry comes from
-pub record Origin (p : Program) (pl : Placement) (s : Schedule) (kk : ℕ) (m : Module) (e : Receive) : Type 0 where
+pub record Origin (program : Program) (placement : Placement) (schedule : Schedule) (kk : ℕ) (m : Module)
+    (e : Receive) : Type 0 where
   pub task : Task
   pub task_at : slice_get m.tasks e.task ≡ Some task
-  pub remote : is_remote p pl kk task ≡ true
+  pub remote : is_remote program placement kk task ≡ true
   pub mode : Mode
   pub mode_at : slice_get m.modes e.mode ≡ Some mode
   pub place : ℕ
@@ -60,7 +62,7 @@ pub record Origin (p : Program) (pl : Placement) (s : Schedule) (kk : ℕ) (m : 
   pub at : slice_get mode.invocations place ≡ Some invocation
   pub number : e.invocation ≡ suc place
   pub of_task : invocation.task.0 ≡ e.task
-  pub delta : e.delta ≡ invocation.e.0 - bus_end s kk e.mode e.invocation
+  pub delta : e.delta ≡ delta_of schedule kk e.mode e.invocation invocation
 
 -- the one item of a list under a test: the test holds and it is that item
 pub if_in : {B : Type 0} (b : Bool) (c d : B) → In d (if b then c ∷ [] else []) → (b ≡ true) × (d ≡ c)
@@ -93,7 +95,7 @@ module _ (p : Program) (pl : Placement) (s : Schedule) (kk : ℕ) (m : Module) w
         mode = 0 + c.place;
         invocation = n;
         task = 0 + a.place;
-        delta = i.e.0 - bus_end s kk (0 + c.place) n;
+        delta = delta_of s kk (0 + c.place) n i;
         block = 0;
       } ∷ [] else []) 1 c.item.invocations e c.within in
       let f = if_in (d.item.task.0 == 0 + a.place)
@@ -102,7 +104,7 @@ module _ (p : Program) (pl : Placement) (s : Schedule) (kk : ℕ) (m : Module) w
         invocation = 1 + d.place;
         task = 0 + a.place;
         delta =
-            d.item.e.0 - bus_end s kk (0 + c.place) (1 + d.place);
+            delta_of s kk (0 + c.place) (1 + d.place) d.item;
         block = 0;
       }) e d.within in
       let task : e.task ≡ 0 + a.place = ap (λ (r : Receive). r.task) f.1 in
@@ -121,7 +123,7 @@ module _ (p : Program) (pl : Placement) (s : Schedule) (kk : ℕ) (m : Module) w
         at = d.at;
         number = number ∙ n;
         of_task = eqb-true d.item.task.0 (0 + a.place) f.0 ∙ sym task;
-        delta = ap (λ (r : Receive). r.delta) f.1 ∙ ap₂ (λ k j. d.item.e.0 - bus_end s kk k j) (sym mode) (sym number);
+        delta = ap (λ (r : Receive). r.delta) f.1 ∙ ap₂ (λ k j. delta_of s kk k j d.item) (sym mode) (sym number);
       }
 
   -- renumbered blocks
@@ -171,3 +173,21 @@ module _ (p : Program) (pl : Placement) (s : Schedule) (kk : ℕ) (m : Module) w
       ap (slice_get (map (λ (d : Receive). take_block d.block) (receives p pl s kk m))) block
       ∙ slice_get-map (λ (d : Receive). take_block d.block) (receives p pl s kk m) j
       ∙ ap (option_map (λ (d : Receive). take_block d.block)) at ∙ ap (λ b. Some (take_block b)) block
+
+  -- the entry's block is of its own, and it is due at the end of its invocation
+  pub due_at_end : (j : ℕ) (e : Receive) → slice_get (receives p pl s kk m) j ≡ Some e →
+      IsDueAtEnd s kk m (stub_of p pl s kk m) j e
+  due_at_end j e at =
+      let o = origin j e at in
+      record {
+        mode = o.mode;
+        mode_at = o.mode_at;
+        invocation = o.invocation;
+        at = ap (invocation_of o.mode.invocations) o.number ∙ o.at;
+        task = o.of_task;
+        ends = added o.invocation.e.0 (bus_end s kk e.mode e.invocation) e.delta o.delta;
+        block = own_blocks j e at;
+      }
+    where
+      added : (a b d : ℕ) → d ≡ a - b → b ≤ a → b + d ≡ a
+      added a b d is le = omega (arith, is, le)

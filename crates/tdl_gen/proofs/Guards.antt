@@ -10,12 +10,14 @@ use Rattle.tdl_trace.specs.Shown.{Shown}
 use Rattle.tdl_ecode.specs.declared.instr.EInstr.{EInstr}
 use Rattle.tdl_ecode.specs.declared.instr.EInstr.TheVariants as ec
 use Rattle.tdl_image.specs.declared.hosted.Hosted.{Hosted}
-use Rattle.tdl_verify.specs.States.{HostNow, Part, Times, Sensed, value_on, look_on}
+use Rattle.tdl_base.specs.Sensed.{Sensed}
+use Rattle.tdl_verify.specs.States.{HostNow, Part, Times, value_on, outer_on}
 use Rattle.tdl_verify.specs.Turns.{Acted, Spot, code_at, no_code}
 use Rattle.tdl_gen.specs.BlockNames.{guard_names, number_in}
-use Rattle.tdl_gen.specs.Blocks.{guarded}
+use Rattle.tdl_gen.specs.Blocks.{index_after, guarded}
 use Rattle.tdl_gen.specs.Tables.{coded}
-use Rattle.tdl_lower.proofs.ExprCodes.{number_of-code}
+pub use Rattle.tdl_gen.specs.HostSteps.{HasGuard}
+use Rattle.tdl_lower.proofs.ExprCodes.{code_value-expr_code}
 use Rattle.tdl_lower.specs.Looks.{looked}
 use Rattle.tdl_verify.proofs.Leads.{Leads, nothing, one_on}
 use Rattle.tdl_verify.proofs.EndBlocks.{HasAt}
@@ -26,18 +28,13 @@ Reads parts sensed k look = (ex : Expr) → value_on parts sensed k (coded ex) �
 
 -- the codes read what the parts show
 pub reads : (parts : List Part) (sensed : Sensed) (k : ℕ) →
-    Reads parts sensed k (looked (look_on parts sensed k) no_cells)
-reads parts sensed k ex = number_of-code ex (look_on parts sensed k)
+    Reads parts sensed k (looked (outer_on parts sensed k) no_cells)
+reads parts sensed k ex = code_value-expr_code ex (outer_on parts sensed k)
 
 -- a guard's instruction, if there is a guard
 abbrev pub cost : Option Expr → ℕ
 cost None = 0
 cost (Some g) = 1
-
--- the guard stands at its number
-abbrev pub HasGuard : Hosted → ℕ → Option Expr → Type 0
-HasGuard h n None = Unit {0}
-HasGuard h n (Some g) = slice_get h.guards n ≡ Some (coded g)
 
 module _ (x node : ℕ) (sensed : Sensed) (times : Times) (h : Hosted) (b : ℕ) (front back : List Part) (m : Module)
     (k act : ℕ) (look : Look) where
@@ -65,7 +62,7 @@ module _ (x node : ℕ) (sensed : Sensed) (times : Times) (h : Hosted) (b : ℕ)
 
   -- where a guard's instruction leads: on where the guard holds, otherwise past what it guards
   abbrev past : ℕ → List EInstr → Bool → ℕ
-  past pc body t = if t then suc pc else suc pc + length body
+  past pc body t = if t then suc pc else index_after pc body
 
   -- the instruction reads the guard at its number
   guard_read : (g : Expr) (s : HostNow) (pc : ℕ) (body : List EInstr) → Reads (parts s) sensed h.number.0 look →
@@ -93,7 +90,7 @@ module _ (x node : ℕ) (sensed : Sensed) (times : Times) (h : Hosted) (b : ℕ)
       let next : suc pc ≡ pc + 1 = omega arith in
       let acts = guard_read g s pc body reads at ∙ ap (λ t. Acted.On (Part.Host h s) [] (past pc body t)) it in (
         subst (λ q. Runs 1 (spot pc) (parts s) (spot q) (parts s) []) next
-            (one_on x node sensed times front (Part.Host h s) back b pc (ec.If guard_number (suc pc + length body))
+            (one_on x node sensed times front (Part.Host h s) back b pc (ec.If guard_number (index_after pc body))
             (Part.Host h s) [] (suc pc) has.0 acts),
         subst (λ q. HasAt (code_at b (Part.Host h s)) q body) next has.1,
       )
@@ -105,8 +102,8 @@ module _ (x node : ℕ) (sensed : Sensed) (times : Times) (h : Hosted) (b : ℕ)
       Runs (cost guard) (spot pc) (parts s) (spot (pc + length (guarded m k act guard pc body))) (parts s) []
   guard_false None s pc body reads at has it = absurd (cc it)
   guard_false (Some g) s pc body reads at has it =
-      let behind : suc pc + length body ≡ pc + suc (length body) = omega arith in
+      let lands : index_after pc body ≡ pc + suc (length body) = omega arith in
       let acts = guard_read g s pc body reads at ∙ ap (λ t. Acted.On (Part.Host h s) [] (past pc body t)) it in
-      subst (λ q. Runs 1 (spot pc) (parts s) (spot q) (parts s) []) behind
-      (one_on x node sensed times front (Part.Host h s) back b pc (ec.If guard_number (suc pc + length body))
-      (Part.Host h s) [] (suc pc + length body) has.0 acts)
+      subst (λ q. Runs 1 (spot pc) (parts s) (spot q) (parts s) []) lands
+      (one_on x node sensed times front (Part.Host h s) back b pc (ec.If guard_number (index_after pc body))
+      (Part.Host h s) [] (index_after pc body) has.0 acts)

@@ -1,7 +1,6 @@
 -- The four blocks of a hosted module, from its trigger to the next.
-use Rattle.std.proofs.Common.{◌≡◌, ℕ, ◌+◌, ◌-◌, ◌<◌, ℤ, List, [], ◌∷◌, ◌++◌, map, length, Bool, true, false, ◌&&◌, ◌==◌, Option, Some, None, filter, refl, ap, ap₂, sym, ◌∙◌, subst, subst₂, arith, append-nil}
+use Rattle.std.proofs.Common.{◌≡◌, ℕ, ◌+◌, ◌-◌, ◌<◌, ℤ, List, [], ◌∷◌, ◌++◌, map, length, Bool, true, false, ◌&&◌, ◌==◌, Option, Some, None, refl, ap, ap₂, sym, ◌∙◌, subst, subst₂, arith, append-nil}
 use Rattle.std.specs.Prelude.{slice_get, option_map, unwrap_or, if◌then◌else◌, find}
-use Rattle.std.specs.List.{list_any}
 use Rattle.std.proofs.lemmas.Bool.{eq-eqb}
 use Rattle.std.proofs.lemmas.List.{length-append, length-map}
 use Rattle.tdl_body.specs.Values.{Look, holds}
@@ -16,17 +15,19 @@ use Rattle.tdl_ecode.specs.declared.instr.EInstr.TheVariants as ec
 use Rattle.tdl_ecode.specs.declared.instr.Block.{Block}
 use Rattle.tdl_image.specs.declared.hosted.Hosted.{Hosted}
 use Rattle.tdl_image.specs.declared.hosted.TaskTable.{TaskTable}
-use Rattle.tdl_verify.specs.States.{TaskNow, HostNow, Part, Times, Sensed}
-use Rattle.tdl_verify.specs.Turns.{Due, Spot, due_of, phase_of, code_at, block_of, taken_out}
+use Rattle.tdl_base.specs.Sensed.{Sensed}
+use Rattle.tdl_verify.specs.States.{TaskNow, HostNow, Part, Times}
+use Rattle.tdl_verify.specs.Turns.{Due, Spot, due_of, phase_of, code_at, due_block_number, taken_out}
 use Rattle.tdl_gen.specs.BlockNames.{BlockName, block_number}
 use Rattle.tdl_gen.specs.Blocks.{blocks_of, mode_block, updates_at, switches_at, starting, laid, update_code, switch_code, start_code, cycle_code}
+use Rattle.tdl_gen.specs.HostSteps.{armed, ends_at, updates_of, AllOnce, updated, updated_rows, AllGuards, AllFree, all_started}
 use Rattle.tdl_verify.proofs.Leads.{Leads, leads_on, wider, begin, at_seam, changed-seam}
 use Rattle.tdl_gen.proofs.BlockPlaces.{ends_found, updates_found, switches_found, starts_found}
 use Rattle.tdl_verify.proofs.EndBlocks.{HasAt, has-append, has-self, NoneReady, ended_tasks, ended_rows, passing, ends_run}
 use Rattle.tdl_gen.proofs.Guards.{Reads}
-use Rattle.tdl_gen.proofs.UpdateBlocks.{AllOnce, updated, all_rows, updates_run}
-use Rattle.tdl_gen.proofs.SwitchBlocks.{future_run, mode_run, mode_shown, switches_run, Leads_to, AllGuards}
-use Rattle.tdl_gen.proofs.StartBlocks.{AllFree, all_started, starts_run}
+use Rattle.tdl_gen.proofs.UpdateBlocks.{updates_run}
+use Rattle.tdl_gen.proofs.SwitchBlocks.{future_run, mode_run, mode_shown, switches_run, Leads_to}
+use Rattle.tdl_gen.proofs.StartBlocks.{starts_run}
 use Rattle.tdl_verify.proofs.Sweeps.{NoneBelow, NoneDue, least_at}
 
 module _ (x node : ℕ) (sensed : Sensed) (times : Times) (h : Hosted) (front back : List Part) where
@@ -37,10 +38,6 @@ module _ (x node : ℕ) (sensed : Sensed) (times : Times) (h : Hosted) (front ba
   -- the parts of the node, with the host in this state
   abbrev parts : HostNow → List Part
   parts s = front ++ Part.Host h s ∷ back
-
-  -- the host with a trigger
-  abbrev armed : HostNow → ℕ → ℕ → HostNow
-  armed s at block = record s { trigger = Some (record { at = at; block = block }) }
 
   -- the host without a trigger
   abbrev disarmed : HostNow → HostNow
@@ -56,7 +53,7 @@ module _ (x node : ℕ) (sensed : Sensed) (times : Times) (h : Hosted) (front ba
       let here : due_of x phase (length front) p ≡ d ∷ [] =
       ap₂ (λ a c. if a && c then d ∷ [] else []) (eq-eqb at x now) (eq-eqb (phase_of h.blocks block) phase is) in
       subst₂ (λ b ps. Runs 0 Spot.Between (parts (armed s at block)) (Spot.In (length front) b 0) ps [])
-      (ap (λ o. unwrap_or (option_map (block_of d) o) 0) (at_seam front p back))
+      (ap (λ o. unwrap_or (option_map (due_block_number d) o) 0) (at_seam front p back))
       (changed-seam (taken_out d) front p back)
       (begin x node sensed times (parts (armed s at block)) d
       (least_at x phase front p back d [] above below low none here))
@@ -103,7 +100,7 @@ module _ (x node : ℕ) (sensed : Sensed) (times : Times) (h : Hosted) (front ba
 
     -- a task has an invocation that ends here
     abbrev pub ends_here : ℕ → Bool
-    ends_here t = list_any (λ i. i.task.0 == t && i.e.0 == o) mode.invocations
+    ends_here t = ends_at mode o t
 
     -- the block that ends jobs leads to the trigger of the updates: the tasks that end here show their outputs
     pub ends_leads : (s : HostNow) (at : ℕ) → at ≡ x → 0 < o → length m.tasks ≡ length s.tasks →
@@ -141,21 +138,18 @@ module _ (x node : ℕ) (sensed : Sensed) (times : Times) (h : Hosted) (front ba
 
     -- the updates of an actuator here
     abbrev pub updates_here : ℕ → List Update
-    updates_here a = filter (λ u. u.actuator == a && u.at.0 == o) mode.updates
+    updates_here a = updates_of mode o a
 
     -- the block of the updates leads to the trigger of the switches: the actuators are updated
     pub updates_leads : (look : Look) (s : HostNow) (at : ℕ) → at ≡ x → 0 < o →
         length m.actuators ≡ length s.actuators →
-        AllOnce x node sensed times h updates_number front back m k look updates_here 0 s.actuators →
+        AllOnce h m k updates_here 0 s.actuators →
         ((acts : List ℤ) → Reads (parts (record (disarmed s) { actuators = acts })) sensed h.number.0 look) →
         NoneBelow x 2 (parts (armed s at updates_number)) → NoneDue x 2 front →
         Runs (length updates_block.code) Spot.Between (parts (armed s at updates_number))
-        Spot.Between (parts (armed (record s {
-          actuators =
-              updated x node sensed times h updates_number front back m k look updates_here 0 s.actuators;
-        }) (x + 0)
+        Spot.Between (parts (armed (record s { actuators = updated h look updates_here 0 s.actuators }) (x + 0)
         switches_number))
-        (all_rows x node sensed times h updates_number front back m k look updates_here 0 s.actuators)
+        (updated_rows x node h look updates_here 0 s.actuators)
     updates_leads look s at now above size once reads low none =
         let f : slice_get h.blocks updates_number ≡ Some updates_block =
         found updates_number updates_block (updates_found m k o mode is off above) in
@@ -163,10 +157,7 @@ module _ (x node : ℕ) (sensed : Sensed) (times : Times) (h : Hosted) (front ba
         let tail : List EInstr = ec.Future 0 switches_number ∷ ec.Return ∷ [] in
         let cut = has-append (code_at updates_number (Part.Host h (disarmed s))) 0 code tail
         (has_found (disarmed s) updates_number updates_block f) in
-        let s' : HostNow = record (disarmed s) {
-          actuators =
-              updated x node sensed times h updates_number front back m k look updates_here 0 s.actuators;
-        } in
+        let s' : HostNow = record (disarmed s) { actuators = updated h look updates_here 0 s.actuators } in
         let a = begins s at updates_number 2 now (omega arith) (omega arith)
         (phase_found updates_number updates_block f) low none in
         let b = updates_run x node sensed times h updates_number front back m k look updates_here m.actuators
@@ -176,7 +167,7 @@ module _ (x node : ℕ) (sensed : Sensed) (times : Times) (h : Hosted) (front ba
         let total : 0 + length code + 2 ≡ length updates_block.code = omega (arith, length-append code tail) in
         subst₂ (λ n rs. Runs n Spot.Between (parts (armed s at updates_number)) Spot.Between
         (parts (armed s' (x + 0) switches_number)) rs) total
-        (append-nil (all_rows x node sensed times h updates_number front back m k look updates_here 0 s.actuators))
+        (append-nil (updated_rows x node h look updates_here 0 s.actuators))
         (leads_on x node sensed times (0 + length code) 2 _ _ _ _ _ _ _ _
         (leads_on x node sensed times 0 (length code) _ _ _ _ _ _ _ _ a b) c)
 
@@ -186,14 +177,14 @@ module _ (x node : ℕ) (sensed : Sensed) (times : Times) (h : Hosted) (front ba
 
     -- the block of the starts leads to the trigger of the next offset: the jobs that start here are ready
     pub starts_leads : (look : Look) (tables : ℕ → TaskTable) (s : HostNow) (at : ℕ) → at ≡ x → o < mode.period.0 →
-        AllFree x node sensed times h starts_number front back m k o look tables 1 mode.invocations s.tasks →
+        AllFree times h m k o look tables 1 mode.invocations s.tasks →
         ((us : List TaskNow) → map (λ (u : TaskNow). u.outputs) us ≡ map (λ (u : TaskNow). u.outputs) s.tasks →
         Reads (parts (record (disarmed s) { tasks = us })) sensed h.number.0 look) →
         NoneBelow x 4 (parts (armed s at starts_number)) → NoneDue x 4 front →
         Runs (length starts_block.code) Spot.Between (parts (armed s at starts_number))
         Spot.Between (parts (armed (record s {
           tasks =
-              all_started x node sensed times h starts_number front back m k o look tables 1 mode.invocations s.tasks;
+              all_started times h k o look tables 1 mode.invocations s.tasks;
         })
         (x + (next_offset mode o - o)) (block_number m (BlockName.Ends k (next_offset mode o))))) []
     starts_leads look tables s at now below free reads low none =
@@ -207,7 +198,7 @@ module _ (x node : ℕ) (sensed : Sensed) (times : Times) (h : Hosted) (front ba
         (has_found (disarmed s) starts_number starts_block f) in
         let s' : HostNow = record (disarmed s) {
           tasks =
-              all_started x node sensed times h starts_number front back m k o look tables 1 mode.invocations s.tasks;
+              all_started times h k o look tables 1 mode.invocations s.tasks;
         } in
         let a = begins s at starts_number 4 now (omega arith) (omega arith)
         (phase_found starts_number starts_block f) low none in
@@ -256,18 +247,18 @@ module _ (x node : ℕ) (sensed : Sensed) (times : Times) (h : Hosted) (front ba
         ∷ [] else (ec.Future 0 starts_number ∷ ec.Return ∷ []))) over has))
 
     -- the switches and what follows where none is taken, together
-    behind_switches : (look : Look) (s : HostNow) (n c : ℕ) (w : Option Switch) →
+    past_switches : (look : Look) (s : HostNow) (n c : ℕ) (w : Option Switch) →
         Leads_to x node sensed times h switches_number front back m k look (disarmed s) 0 n w →
         Runs c (Spot.In (length front) switches_number (0 + n)) (parts (disarmed s)) Spot.Between
         (parts (after_switches s None (o == mode.period.0))) (rows_of_switches s None (o == mode.period.0)) →
         Runs (n + c) (Spot.In (length front) switches_number 0) (parts (disarmed s)) Spot.Between
         (parts (after_switches s w (o == mode.period.0))) (rows_of_switches s w (o == mode.period.0))
-    behind_switches look s n c None first rest = leads_on x node sensed times n c _ _ _ _ _ _ _ _ first rest
-    behind_switches look s n c (Some w) first rest = wider x node sensed times n (n + c) _ _ _ _ _ (omega arith) first
+    past_switches look s n c None first rest = leads_on x node sensed times n c _ _ _ _ _ _ _ _ first rest
+    past_switches look s n c (Some w) first rest = wider x node sensed times n (n + c) _ _ _ _ _ (omega arith) first
 
     -- the block of the switches leads to the trigger of the starts of the mode that is on
     pub switches_leads : (look : Look) (s : HostNow) (at : ℕ) → at ≡ x → 0 < o →
-        AllGuards x node sensed times h switches_number front back m k look (switches_at mode o) →
+        AllGuards h m k (switches_at mode o) →
         Reads (parts (disarmed s)) sensed h.number.0 look →
         NoneBelow x 3 (parts (armed s at switches_number)) → NoneDue x 3 front →
         Runs (length switches_block.code) Spot.Between (parts (armed s at switches_number))
@@ -291,5 +282,5 @@ module _ (x node : ℕ) (sensed : Sensed) (times : Times) (h : Hosted) (front ba
         (parts (after_switches s (find (λ w. holds w.guard look) (switches_at mode o)) (o == mode.period.0)))
         (rows_of_switches s (find (λ w. holds w.guard look) (switches_at mode o)) (o == mode.period.0))) total
         (leads_on x node sensed times 0 (length code + length (cycle_code m k mode o)) _ _ _ _ _ _ _ _ a
-        (behind_switches look s (length code) (length (cycle_code m k mode o))
+        (past_switches look s (length code) (length (cycle_code m k mode o))
         (find (λ w. holds w.guard look) (switches_at mode o)) b c))

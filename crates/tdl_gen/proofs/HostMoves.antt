@@ -11,25 +11,26 @@ use Rattle.tdl_mode.specs.Offsets.{is_offset, next_offset, offset_list}
 use Rattle.tdl_mode.specs.States.{TaskState, look_of}
 use Rattle.tdl_ecode.specs.declared.instr.Block.{Block}
 use Rattle.tdl_image.specs.declared.hosted.Hosted.{Hosted}
-use Rattle.tdl_verify.specs.States.{TaskNow, HostNow, Part, Times, Sensed, part_outputs}
+use Rattle.tdl_base.specs.Sensed.{Sensed}
+use Rattle.tdl_verify.specs.States.{TaskNow, HostNow, Part, Times, part_outputs}
 use Rattle.tdl_verify.specs.Turns.{due_of, phase_of}
 use Rattle.tdl_gen.specs.BlockNames.{BlockName, block_number}
 use Rattle.tdl_gen.specs.Blocks.{blocks_of, mode_block, switches_at}
 use Rattle.tdl_gen.proofs.BlockPlaces.{updates_found, switches_found, starts_found}
 use Rattle.tdl_verify.proofs.EndBlocks.{NoneReady, ended_tasks, ended_rows}
-use Rattle.tdl_gen.proofs.UpdateBlocks.{AllOnce, updated, all_rows}
+use Rattle.tdl_gen.proofs.UpdateBlocks.{AllOnce}
 use Rattle.tdl_gen.proofs.Seen.{reads-logical}
-use Rattle.tdl_gen.proofs.HostBlocks.{ends_here, ends_leads, updates_here, updates_leads, after_switches, rows_of_switches, switches_leads, starts_leads}
+use Rattle.tdl_gen.proofs.HostBlocks.{ends_leads, updates_here, updates_leads, after_switches, rows_of_switches, switches_leads, starts_leads}
 use Rattle.tdl_gen.proofs.SwitchBlocks.{AllGuards}
-use Rattle.tdl_gen.proofs.StartBlocks.{AllFree, all_started}
+use Rattle.tdl_gen.proofs.StartBlocks.{AllFree}
 use Rattle.tdl_image.specs.declared.hosted.TaskTable.{TaskTable}
 use Rattle.tdl_mode.specs.declared.program.Switch.{Switch}
-use Rattle.tdl_mode.specs.declared.program.Update.{Update}
 use Rattle.tdl_trace.specs.Shown.{Shown}
 use Rattle.std.specs.Prelude.{find}
 use Rattle.std.proofs.lemmas.Option.{slice_get-map}
 use Rattle.tdl_mode.proofs.NextOffsets.{above_least}
 use Rattle.tdl_verify.proofs.Sweeps.{Move}
+use Rattle.tdl_gen.specs.HostSteps.{armed, ends_at, updates_of, updated, updated_rows, all_started, CanEnter}
 pub use Rattle.tdl_gen.proofs.PartViews.{NotIn, Apart, Sees, sees-kept, quiet}
 use Rattle.tdl_gen.proofs.PartViews.{sees-none}
 
@@ -51,14 +52,6 @@ module _ (x node : ℕ) (sensed : Sensed) (times : Times) (h : Hosted) (m : Modu
   abbrev starts_number : ℕ
   starts_number = block_number m (BlockName.Starts k o)
 
-  -- a task has an invocation that ends here
-  abbrev ending_here : ℕ → Bool
-  ending_here = ends_here x node sensed times h [] [] m blocks k o mode is off
-
-  -- the updates of an actuator here
-  abbrev updates_of : ℕ → List Update
-  updates_of = updates_here x node sensed times h [] [] m blocks k o mode is off
-
   -- where a switch or the end of the cycle leads
   abbrev led_by : HostNow → Option Switch → Bool → HostNow
   led_by = after_switches x node sensed times h [] [] m blocks k o mode is off
@@ -66,10 +59,6 @@ module _ (x node : ℕ) (sensed : Sensed) (times : Times) (h : Hosted) (m : Modu
   -- the rows of a mode that is so entered
   abbrev rows_led_by : HostNow → Option Switch → Bool → List Shown
   rows_led_by = rows_of_switches x node sensed times h [] [] m blocks k o mode is off
-
-  -- the host with a trigger
-  abbrev pub armed : HostNow → ℕ → ℕ → HostNow
-  armed s at block = record s { trigger = Some (record { at = at; block = block }) }
 
   -- the phase of a block of the module is its phase on the host
   pub phase_at : (nb : ℕ) (b : Block) → slice_get (blocks_of m) nb ≡ Some b → phase_of h.blocks nb ≡ b.phase
@@ -79,16 +68,17 @@ module _ (x node : ℕ) (sensed : Sensed) (times : Times) (h : Hosted) (m : Modu
   unfoldable pub ends_move : 0 < o → (Fit : List Part → Type 0) →
       ((front back : List Part) (p q : Part) → Fit (front ++ p ∷ back) → Fit (front ++ q ∷ back)) →
       (s : HostNow) (at : ℕ) → at ≡ x → length m.tasks ≡ length s.tasks →
-      NoneReady ending_here 0 s.tasks → Move x node sensed times 1 Fit
+      NoneReady (ends_at mode o) 0 s.tasks → Move x node sensed times 1 Fit
   ends_move above Fit any s at now size ready = record {
     before = Part.Host h (armed s at ends_number);
-    after = Part.Host h (armed (record s { tasks = ended_tasks ending_here 0 s.tasks }) (x + 0) updates_number);
-    rows = ended_rows x node h.number.0 ending_here 0 s.tasks;
+    after = Part.Host h (armed (record s { tasks = ended_tasks (ends_at mode o) 0 s.tasks }) (x + 0) updates_number);
+    rows = ended_rows x node h.number.0 (ends_at mode o) 0 s.tasks;
     cost = length (mode_block m (Some mode) (BlockName.Ends k o)).code;
     leads = λ front back fit low none. ends_leads x node sensed times h front back m blocks k o mode is off s at now
         above size ready low none;
     fits = λ front back fit. any front back _ _ fit;
-    below = λ q lt n. quiet x q n h (record s { tasks = ended_tasks ending_here 0 s.tasks }) (x + 0) updates_number 2
+    below = λ q lt n. quiet x q n h (record s { tasks = ended_tasks (ends_at mode o) 0 s.tasks }) (x + 0)
+        updates_number 2
         (phase_at updates_number _ (updates_found m k o mode is off above)) lt;
   }
 
@@ -98,10 +88,7 @@ module _ (x node : ℕ) (sensed : Sensed) (times : Times) (h : Hosted) (m : Modu
 
   -- the host with its actuators updated
   abbrev pub after_updates : (PortKey → ℤ) → List TaskState → HostNow → HostNow
-  after_updates seen us s = record s {
-    actuators =
-        updated x node sensed times h updates_number [] [] m k (look seen us) updates_of 0 s.actuators;
-  }
+  after_updates seen us s = record s { actuators = updated h (look seen us) (updates_of mode o) 0 s.actuators }
 
   -- the host's move in phase 2
   unfoldable pub updates_move : 0 < o → (seen : PortKey → ℤ) (ns : List ℕ) → Apart ns →
@@ -113,7 +100,7 @@ module _ (x node : ℕ) (sensed : Sensed) (times : Times) (h : Hosted) (m : Modu
   updates_move above seen ns apart us s at now size same once = record {
     before = Part.Host h (armed s at updates_number);
     after = Part.Host h (armed (after_updates seen us s) (x + 0) switches_number);
-    rows = all_rows x node sensed times h updates_number [] [] m k (look seen us) updates_of 0 s.actuators;
+    rows = updated_rows x node h (look seen us) (updates_of mode o) 0 s.actuators;
     cost = length (mode_block m (Some mode) (BlockName.Updates k o)).code;
     leads = λ front back fit low none.
         let p : Part = Part.Host h (armed s at updates_number) in
@@ -128,15 +115,13 @@ module _ (x node : ℕ) (sensed : Sensed) (times : Times) (h : Hosted) (m : Modu
         (phase_at switches_number _ (switches_found m k o mode is off above)) lt;
   }
 
-  -- the entry block of phase 4 of a mode that is there
-  pub record Enters (j : ℕ) : Type 0 where
-    pub mode'' : Mode
-    pub at : slice_get m.modes j ≡ Some mode''
-    pub lasts : 0 < mode''.period.0
+  -- a mode that is there and lasts
+  abbrev pub Enters : ℕ → Type 0
+  Enters j = CanEnter m j
 
   -- the entry block of a mode that is there is of phase 4
   enters_phase : (j : ℕ) → Enters j → phase_of h.blocks (block_number m (BlockName.Starts j 0)) ≡ 4
-  enters_phase j e = phase_at (block_number m (BlockName.Starts j 0)) _ (starts_found m j 0 e.mode'' e.at refl e.lasts)
+  enters_phase j e = phase_at (block_number m (BlockName.Starts j 0)) _ (starts_found m j 0 e.mode e.at refl e.lasts)
 
   -- where the switches lead: a part whose outputs and number are as before, with a trigger of phase 4
   abbrev pub Led : HostNow → Option Switch → Bool → Type 0
@@ -210,7 +195,7 @@ module _ (x node : ℕ) (sensed : Sensed) (times : Times) (h : Hosted) (m : Modu
   abbrev pub after_starts : (PortKey → ℤ) → List TaskState → (ℕ → TaskTable) → HostNow → HostNow
   after_starts seen us tables s = record s {
     tasks =
-        all_started x node sensed times h starts_number [] [] m k o (look seen us) tables 1 mode.invocations s.tasks;
+        all_started times h k o (look seen us) tables 1 mode.invocations s.tasks;
   }
 
   -- the host's move in phase 4

@@ -1,4 +1,5 @@
 pub mod Examples
+mod TableExamples
 pub mod BlockPlaces
 pub mod TablePlaces
 pub mod ReleasePlaces
@@ -18,3 +19,6 @@ pub mod HostMoves
 pub mod EntryTables
 pub mod Takes
 pub mod StubMoves
+pub mod TakeCounts
+pub mod PartCounts
+pub mod HostSteps

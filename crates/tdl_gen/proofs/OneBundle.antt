@@ -19,7 +19,7 @@ head_or : {A : Type 0} → A → List A → A
 head_or a [] = a
 head_or a (b ∷ bs) = b
 
--- the items behind the first
+-- the items after the first
 rest_of : {A : Type 0} → List A → List A
 rest_of [] = []
 rest_of (b ∷ bs) = bs
@@ -51,18 +51,21 @@ all_images (x ∷ xs) (y ∷ ys) e d =
     (rests x.declared y.declared (map (λ (i : Image). i.declared) xs) (map (λ (i : Image). i.declared) ys) d))
 
 -- the counts of the compiler's images are those of their nodes
-counts-are : (p : Program) (pl : Placement) (s : Schedule) (k : ℕ) (ns : List PlacedNode) →
-    map (λ (i : Image). i.declared) (numbered k (image_of p pl s) ns) ≡
-    numbered k (λ node n. declared_of p pl s node) ns
-counts-are p pl s k [] = refl
-counts-are p pl s k (n ∷ ns) = ap (λ l. declared_of p pl s k ∷ l) (counts-are p pl s (suc k) ns)
+counts-are : (program : Program) (placement : Placement) (schedule : Schedule) (k : ℕ) (ns : List PlacedNode) →
+    map (λ (i : Image). i.declared) (numbered k (image_of program placement schedule) ns) ≡
+    numbered k (λ node n. declared_of program placement schedule node) ns
+counts-are program placement schedule k [] = refl
+counts-are program placement schedule k (n ∷ ns) =
+    ap (λ l. declared_of program placement schedule k ∷ l) (counts-are program placement schedule (suc k) ns)
 
 -- a bundle with the tables and the counts of the compiler's bundle is the compiler's bundle
-pub one_bundle : (b : Bundle) (p : Program) (pl : Placement) (s : Schedule) → HasTables b p pl s →
-    HasCounts b p pl s → b ≡ bundle_of p pl s
+pub one_bundle : (bundle : Bundle) (program : Program) (placement : Placement) (schedule : Schedule) →
+    HasTables bundle program placement schedule →
+    HasCounts bundle program placement schedule → bundle ≡ bundle_of program placement schedule
 unfolding bundle_of
-one_bundle b p pl s tables counts =
+one_bundle bundle program placement schedule tables counts =
     λ q. record {
-      images = all_images b.images (numbered 0 (image_of p pl s) pl.nodes)
-          (ap (λ (c : Bundle). c.images) tables) (counts ∙ sym (counts-are p pl s 0 pl.nodes)) q;
+      images = all_images bundle.images (numbered 0 (image_of program placement schedule) placement.nodes)
+          (ap (λ (c : Bundle). c.images) tables) (counts
+          ∙ sym (counts-are program placement schedule 0 placement.nodes)) q;
     }

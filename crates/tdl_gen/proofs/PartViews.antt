@@ -4,23 +4,10 @@ use Rattle.std.specs.Prelude.{if◌then◌else◌}
 use Rattle.std.proofs.lemmas.Bool.{ne_eqb}
 use Rattle.tdl_base.specs.declared.numbers.PortKey.{PortKey}
 use Rattle.tdl_image.specs.declared.hosted.Hosted.{Hosted}
-use Rattle.tdl_verify.specs.States.{HostNow, Part, outputs_on, part_number, part_outputs}
+use Rattle.tdl_verify.specs.States.{HostNow, Part, part_number, part_outputs}
+pub use Rattle.tdl_verify.specs.Sweeps.{NotIn, Apart, Sees}
 use Rattle.tdl_verify.specs.Turns.{Due, due_of, phase_of}
 use Rattle.tdl_gen.proofs.Seen.{NoneNumbered, outputs_on-same}
-
--- a number is not among these
-abbrev pub NotIn : ℕ → List ℕ → Type 0
-NotIn n [] = Unit {0}
-NotIn n (a ∷ l) = ((a == n) ≡ false) × NotIn n l
-
--- no number stands twice
-abbrev pub Apart : List ℕ → Type 0
-Apart ns = (front : List ℕ) (n : ℕ) (back : List ℕ) → ns ≡ front ++ n ∷ back → NotIn n front
-
--- the parts have these numbers, and this is seen of them
-pub record Sees (seen : PortKey → ℤ) (ns : List ℕ) (parts : List Part) : Type 0 where
-  pub outputs : outputs_on parts ≡ seen
-  pub numbers : map part_number parts ≡ ns
 
 -- the numbers of parts around one part
 numbers-cut : (front : List Part) (p : Part) (back : List Part) →

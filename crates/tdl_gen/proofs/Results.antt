@@ -5,7 +5,8 @@ use Rattle.tdl_base.specs.declared.kinds.Kind.{Kind}
 use Rattle.tdl_mode.specs.declared.program.Task.{Task}
 use Rattle.tdl_mode.specs.declared.program.PortDef.{PortDef}
 use Rattle.tdl_mode.specs.States.{result_of, kinds_of}
-use Rattle.tdl_stack.specs.Running.{Cells, outputs_after, cells_after}
+use Rattle.tdl_base.specs.Cells.{Cells}
+use Rattle.tdl_stack.specs.Running.{outputs_after, cells_after}
 use Rattle.tdl_lower.specs.Templates.{body_code}
 use Rattle.tdl_verify.specs.Micros.{cells_of}
 use Rattle.tdl_gen.specs.Tables.{task_table, initials}

@@ -7,7 +7,8 @@ use Rattle.tdl_base.specs.declared.numbers.PortKey.{PortKey}
 use Rattle.tdl_mode.specs.States.{TaskState, output_at, look_of}
 use Rattle.tdl_stack.specs.Running.{no_cells}
 use Rattle.tdl_image.specs.declared.hosted.Hosted.{Hosted}
-use Rattle.tdl_verify.specs.States.{TaskNow, HostNow, Part, Sensed, part_number, part_outputs, outputs_on, look_on}
+use Rattle.tdl_base.specs.Sensed.{Sensed}
+use Rattle.tdl_verify.specs.States.{TaskNow, HostNow, Part, part_number, part_outputs, outputs_on, outer_on}
 use Rattle.tdl_lower.specs.Looks.{looked}
 use Rattle.tdl_gen.proofs.Guards.{Reads, reads}
 
@@ -75,7 +76,7 @@ outputs-agree us ws t same =
 pub look-agrees : (front : List Part) (h : Hosted) (s : HostNow) (back : List Part) (sensed : Sensed)
     (us : List TaskState) → NoneNumbered h.number.0 front →
     map (λ (w : TaskNow). w.outputs) s.tasks ≡ map (λ (u : TaskState). u.outputs) us →
-    looked (look_on (front ++ Part.Host h s ∷ back) sensed h.number.0) no_cells ≡
+    looked (outer_on (front ++ Part.Host h s ∷ back) sensed h.number.0) no_cells ≡
     look_of h.number.0 us sensed (outputs_on (front ++ Part.Host h s ∷ back))
 look-agrees front h s back sensed us none same =
     λ i. record { cell = λ k. pos 0; sensor = sensed h.number.0; port = λ key. port key i }

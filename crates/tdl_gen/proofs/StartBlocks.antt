@@ -1,6 +1,6 @@
 -- The block of phase 4: the releases.
-use Rattle.std.proofs.Common.{◌≡◌, ℕ, zero, suc, ◌+◌, ◌≤◌, ℤ, pos, List, [], ◌∷◌, ◌++◌, map, length, replicate, Bool, true, false, ◌&&◌, ◌==◌, Some, filter, refl, ap, ap₂, sym, ◌∙◌, subst, subst₂, arith}
-use Rattle.std.specs.Prelude.{slice_get, if◌then◌else◌}
+use Rattle.std.proofs.Common.{◌≡◌, ℕ, zero, suc, ◌+◌, ◌≤◌, ℤ, pos, List, [], ◌∷◌, ◌++◌, map, length, replicate, Bool, true, false, ◌&&◌, ◌==◌, filter, refl, ap, ap₂, sym, ◌∙◌, subst, subst₂, arith}
+use Rattle.std.specs.Prelude.{if◌then◌else◌}
 use Rattle.std.proofs.lemmas.List.{length-append}
 use Rattle.tdl_base.specs.Lists.{changed_at, numbered}
 use Rattle.tdl_base.specs.Numbers.{narrowed}
@@ -17,14 +17,17 @@ use Rattle.tdl_ecode.specs.declared.instr.EInstr.{EInstr}
 use Rattle.tdl_ecode.specs.declared.instr.EInstr.TheVariants as ec
 use Rattle.tdl_image.specs.declared.hosted.Hosted.{Hosted}
 use Rattle.tdl_image.specs.declared.hosted.TaskTable.{TaskTable}
-use Rattle.tdl_verify.specs.States.{Slot, TaskNow, HostNow, Part, Times, Sensed, value_on}
-use Rattle.tdl_verify.specs.Turns.{Acted, Spot, code_at, released, arguments}
-use Rattle.tdl_gen.specs.BlockNames.{guard_names, call_names, release_names, number_in}
+use Rattle.tdl_base.specs.Sensed.{Sensed}
+use Rattle.tdl_verify.specs.States.{Slot, TaskNow, HostNow, Part, Times, value_on}
+use Rattle.tdl_verify.specs.Turns.{Acted, Spot, code_at, release_acts, arguments}
+use Rattle.tdl_gen.specs.BlockNames.{release_names, number_in}
 use Rattle.tdl_gen.specs.Blocks.{laid, start_code, Numbered}
 use Rattle.tdl_gen.specs.Tables.{coded}
+pub use Rattle.tdl_gen.specs.HostSteps.{outputs_of}
+use Rattle.tdl_gen.specs.HostSteps as steps
 use Rattle.tdl_verify.proofs.Leads.{Leads, nothing, leads_on, wider, one_on}
 use Rattle.tdl_verify.proofs.EndBlocks.{HasAt, has-append}
-use Rattle.tdl_gen.proofs.Guards.{Reads, HasGuard, cost, guard_length, guard_true, guard_false}
+use Rattle.tdl_gen.proofs.Guards.{Reads, cost, guard_length, guard_true, guard_false}
 
 module _ (x node : ℕ) (sensed : Sensed) (times : Times) (h : Hosted) (b : ℕ) (front back : List Part) (m : Module)
     (k o : ℕ) (look : Look) where
@@ -54,31 +57,20 @@ module _ (x node : ℕ) (sensed : Sensed) (times : Times) (h : Hosted) (b : ℕ)
 
   -- a task whose job starts
   abbrev pub started : TaskTable → ℕ → Invocation → TaskNow → TaskNow
-  started table n i u = record u {
-    slot = Slot.Ready k n (times h.number.0 i.task.0 (suc u.released))
-        (narrowed_args table.inputs i.args look ++ u.outputs ++ replicate (length table.locals) (pos 0));
-    released = suc u.released;
-  }
+  started table n i u = steps.started times h k look table n i u
 
   -- the tables of an invocation stand at their numbers
-  pub record HasStart (n : ℕ) (i : Invocation) (table : TaskTable) : Type 0 where
-    pub guard : HasGuard h (number_in (guard_names m) k i.act) i.guard
-    pub release : slice_get h.releases (number_in (release_names m) k n) ≡
-        Some (record { mode = k; invocation = n; call = number_in (call_names m) k i.act })
-    pub call : slice_get h.calls (number_in (call_names m) k i.act) ≡
-        Some (record { task = i.task.0; args = map coded i.args })
-    pub tasks : slice_get h.tasks i.task.0 ≡ Some table
+  abbrev pub HasStart : ℕ → Invocation → TaskTable → Type 0
+  HasStart n i table = steps.HasStart h m k n i table
 
   -- the slot of a task is idle
-  pub record IsFree (t : ℕ) (tasks : List TaskNow) : Type 0 where
-    pub outputs : List ℤ
-    pub count : ℕ
-    pub at : slice_get tasks t ≡ Some (record { outputs = outputs; slot = Slot.Idle; released = count })
+  abbrev pub IsFree : ℕ → List TaskNow → Type 0
+  IsFree t ts = steps.IsFree t ts
 
   -- a release makes the job of its invocation ready
   one_release : (s : HostNow) (ts : List TaskNow) (pc n : ℕ) (i : Invocation) (table : TaskTable) →
       HasStart n i table → IsFree i.task.0 ts → Reads (parts (with_tasks s ts)) sensed h.number.0 look →
-      released (value_on (parts (with_tasks s ts)) sensed h.number.0) times h (with_tasks s ts) pc
+      release_acts (value_on (parts (with_tasks s ts)) sensed h.number.0) times h (with_tasks s ts) pc
       (number_in (release_names m) k n)
       ≡ Acted.On (Part.Host h (with_tasks s (changed_at i.task.0 (started table n i) ts))) [] (suc pc)
   one_release s ts pc n i table has free reads =
@@ -90,25 +82,18 @@ module _ (x node : ℕ) (sensed : Sensed) (times : Times) (h : Hosted) (b : ℕ)
         released = suc u.released;
       }) ts))) [] (suc pc) in
       let value : Code → ℤ = value_on (parts (with_tasks s ts)) sensed h.number.0 in
-      let first : released value times h (with_tasks s ts) pc (number_in (release_names m) k n) ≡
+      let first : release_acts value times h (with_tasks s ts) pc (number_in (release_names m) k n) ≡
       made (λ kinds args. arguments value kinds (map coded args)) =
       rw (has.release, has.call, has.tasks, free.at) refl in
       first ∙ ap made (λ q kinds args. args-same (parts (with_tasks s ts)) reads kinds args q)
 
   -- what the tasks are after the releases of invocations from number n on
   abbrev pub all_started : (ℕ → TaskTable) → ℕ → List Invocation → List TaskNow → List TaskNow
-  all_started tables n [] ts = ts
-  all_started tables n (i ∷ is) ts =
-      all_started tables (suc n) is (if i.s.0 == o && holds i.guard look then changed_at i.task.0
-      (started (tables i.task.0) n i) ts else ts)
+  all_started tables n is ts = steps.all_started times h k o look tables n is ts
 
   -- each that starts has its tables, and a free slot
   abbrev pub AllFree : (ℕ → TaskTable) → ℕ → List Invocation → List TaskNow → Type 0
-  AllFree tables n [] ts = Unit {0}
-  AllFree tables n (i ∷ is) ts =
-      (i.s.0 == o ≡ true → HasStart n i (tables i.task.0) × IsFree i.task.0 ts)
-      × AllFree tables (suc n) is (if i.s.0 == o && holds i.guard look then changed_at i.task.0
-      (started (tables i.task.0) n i) ts else ts)
+  AllFree tables n is ts = steps.AllFree times h m k o look tables n is ts
 
   -- the invocations that start here, numbered from n on
   abbrev pub starts_from : ℕ → List Invocation → List Numbered
@@ -156,7 +141,7 @@ module _ (x node : ℕ) (sensed : Sensed) (times : Times) (h : Hosted) (b : ℕ)
       (spot (pc + length (laid (start_code m k) pc (starts_from n is))))
       (parts (with_tasks s (all_started tables n is ts))) []
 
-  -- the code of one invocation's start, if it starts here, and of the starts behind it
+  -- the code of one invocation's start, if it starts here, and of the starts after it
   starts_step : (s : HostNow) (tables : ℕ → TaskTable) (n : ℕ) (i : Invocation) (is : List Invocation)
       (ts : List TaskNow) (pc : ℕ) (t : Bool) → (t ≡ true → HasStart n i (tables i.task.0) × IsFree i.task.0 ts) →
       Reads (parts (with_tasks s ts)) sensed h.number.0 look →
@@ -183,10 +168,6 @@ module _ (x node : ℕ) (sensed : Sensed) (times : Times) (h : Hosted) (b : ℕ)
       (if holds i.guard look then changed_at i.task.0 (started (tables i.task.0) n i) ts else ts)))) []) l q
       (leads_on x node sensed times (length first) (length more) _ _ _ _ _ _ _ _
       (start_one s ts pc n i (tables i.task.0) (holds i.guard look) refl (has refl) reads cut.0) (rest pc' cut.1))
-
-  -- the outputs of tasks
-  abbrev pub outputs_of : List TaskNow → List (List ℤ)
-  outputs_of ts = map (λ (u : TaskNow). u.outputs) ts
 
   -- a start leaves the outputs
   pub outputs-changed : (t : ℕ) (f : TaskNow → TaskNow) → ((u : TaskNow) → (f u).outputs ≡ u.outputs) →

@@ -1,47 +1,21 @@
 -- All due receive entries of a stub, as one move of phase 1.
-use Rattle.std.proofs.Common.{◌≡◌, ℕ, zero, suc, ◌+◌, ◌*◌, ℤ, List, [], ◌∷◌, ◌++◌, map, length, Bool, true, false, ◌&&◌, ◌==◌, Some, None, refl, ap, ap₂, sym, ◌∙◌, subst₂, arith, append_assoc}
+use Rattle.std.proofs.Common.{◌≡◌, ℕ, suc, ◌+◌, ◌*◌, ℤ, List, [], ◌∷◌, ◌++◌, map, length, Bool, true, false, ◌&&◌, ◌==◌, Some, refl, ap, ap₂, sym, ◌∙◌, subst₂, arith, append_assoc}
 use Rattle.std.specs.Prelude.{slice_get, option_map, unwrap_or, if◌then◌else◌}
+use Rattle.std.proofs.lemmas.Bool.{ne_eqb}
 use Rattle.std.proofs.lemmas.List.{length-append}
 use Rattle.tdl_trace.specs.Shown.{Shown}
 use Rattle.tdl_ecode.specs.declared.instr.Block.{Block}
 use Rattle.tdl_image.specs.declared.stub.Stub.{Stub}
 use Rattle.tdl_image.specs.declared.stub.Receive.{Receive}
-use Rattle.tdl_verify.specs.States.{EntryNow, StubNow, Part, Times, Sensed}
+use Rattle.tdl_base.specs.Sensed.{Sensed}
+use Rattle.tdl_verify.specs.States.{EntryNow, StubNow, Part, Times}
 use Rattle.tdl_verify.specs.Turns.{Due, Spot, due_of, phase_of, is_at, output_rows, due_entries, replaced_in}
-use Rattle.tdl_verify.proofs.Covered.{unit}
+use Rattle.tdl_verify.specs.Covered.{unit}
 use Rattle.tdl_verify.proofs.Leads.{Leads, nothing, leads_on, wider}
-use Rattle.tdl_verify.proofs.Sweeps.{NoneBelow, NoneDue, Move, due_from, due-append}
+use Rattle.tdl_verify.specs.Sweeps.{NoneBelow, NoneDue, Move}
+use Rattle.tdl_verify.proofs.Sweeps.{below-kept}
+pub use Rattle.tdl_gen.specs.Takes.{freed, left_at, due_count, taken_outputs, taken_rows, taken}
 use Rattle.tdl_gen.proofs.Takes.{OwnBlocks, NotDue, take_one}
-
--- an entry whose block was run
-abbrev pub freed : EntryNow → EntryNow
-freed now = record now { due = None }
-
--- an entry behind phase 1
-abbrev pub left_at : ℕ → EntryNow → EntryNow
-left_at x now = if is_at x now.due then freed now else now
-
--- how many are due
-abbrev pub due_count : ℕ → List EntryNow → ℕ
-due_count x [] = 0
-due_count x (now ∷ more) = unit (is_at x now.due) + due_count x more
-
--- the stub's outputs behind the due entries
-abbrev pub taken_outputs : ℕ → Stub → List Receive → List EntryNow → List (List ℤ) → List (List ℤ)
-taken_outputs x p (e ∷ es) (now ∷ more) outputs =
-    taken_outputs x p es more (if is_at x now.due then replaced_in e.task now.copy p.tasks outputs else outputs)
-taken_outputs x p es more outputs = outputs
-
--- the rows of the due entries
-abbrev pub taken_rows : ℕ → ℕ → Stub → List Receive → List EntryNow → List Shown
-taken_rows x node p (e ∷ es) (now
-    ∷ more) = (if is_at x now.due then output_rows x node p.number.0 e.task now.copy else [])
-    ++ taken_rows x node p es more
-taken_rows x node p es more = []
-
--- the stub behind phase 1
-abbrev pub taken : ℕ → Stub → StubNow → StubNow
-taken x p s = record { outputs = taken_outputs x p p.entries s.entries s.outputs; entries = map (left_at x) s.entries }
 
 -- the entries' blocks are of phase 1
 abbrev pub InOne : Stub → List Receive → Type 0
@@ -67,7 +41,7 @@ other_phase x q k p n (e ∷ es) (now ∷ more) one ne =
     (other_phase x q k p (suc n) es more (λ j a at. one (suc j) a at) ne)
     ∙ ap (λ ds. ds ++ []) (no_due (is_at x now.due) (record { part = k; entry = n }))
 
--- an entry behind phase 1 is not due
+-- an entry after phase 1 is not due
 is_left : (x : ℕ) (now : EntryNow) → is_at x (left_at x now).due ≡ false
 is_left x now = by_test (is_at x now.due) refl
   where
@@ -75,7 +49,7 @@ is_left x now = by_test (is_at x now.due) refl
     by_test true e = refl
     by_test false e = e
 
--- nothing is due behind phase 1
+-- nothing is due after phase 1
 pub none_left : (x q k : ℕ) (p : Stub) (n : ℕ) (es : List Receive) (nows : List EntryNow) →
     due_entries x q k p n es (map (left_at x) nows) ≡ []
 none_left x q k p n [] nows = refl
@@ -84,16 +58,11 @@ none_left x q k p n (e ∷ es) (now ∷ more) =
     ap₂ (λ b ds. (if b && phase_of p.blocks e.block == q then record { part = k; entry = n } ∷ [] else []) ++ ds)
     (is_left x now) (none_left x q k p (suc n) es more)
 
--- entries that are not due, and one more behind them
+-- entries that are not due, and one more after them
 not_due-append : (x : ℕ) (ds : List EntryNow) (now : EntryNow) → NotDue x ds → is_at x now.due ≡ false →
     NotDue x (ds ++ now ∷ [])
 not_due-append x [] now none e = (e, tt)
 not_due-append x (d ∷ ds) now none e = (none.0, not_due-append x ds now none.1 e)
-
--- two lists that are empty together
-empties : {A : Type 0} (a b : List A) → a ++ b ≡ [] → (a ≡ []) × (b ≡ [])
-empties [] b h = (refl, h)
-empties (c ∷ a) b h = absurd (cc h)
 
 module _ (x node : ℕ) (sensed : Sensed) (times : Times) (front back : List Part) (p : Stub) (own : OwnBlocks p) where
   -- at most so many instructions lead from one spot and these parts to another, with these plain rows
@@ -110,16 +79,10 @@ module _ (x node : ℕ) (sensed : Sensed) (times : Times) (front back : List Par
 
   -- where nothing is due in a lower phase, nothing is with the stub in another state
   low_kept : (o o' : List (List ℤ)) (ds ds' : List EntryNow) → NoneBelow x 1 (here o ds) → NoneBelow x 1 (here o' ds')
-  low_kept o o' ds ds' low zero lt =
-      let k : ℕ = 0 + length front in
-      let old : Part = Part.Outside p (record { outputs = o; entries = ds }) in
-      let new : Part = Part.Outside p (record { outputs = o'; entries = ds' }) in
-      let gone : due_of x 0 k new ≡ [] = other_phase x 0 k p 0 p.entries ds' (in_one p own) refl in
-      let whole = sym (due-append x 0 0 front (old ∷ back)) ∙ low 0 (omega arith) in
-      let cut = empties (due_from x 0 0 front) (due_from x 0 k (old ∷ back)) whole in
-      let cut' = empties (due_of x 0 k old) (due_from x 0 (suc k) back) cut.1 in
-      due-append x 0 0 front (new ∷ back) ∙ ap₂ (λ c d. c ++ d) cut.0 (ap₂ (λ c d. c ++ d) gone cut'.1)
-  low_kept o o' ds ds' low (suc q) lt = absurd (omega (arith, lt))
+  low_kept o o' ds ds' low =
+      below-kept x 1 front (Part.Outside p (record { outputs = o; entries = ds }))
+      (Part.Outside p (record { outputs = o'; entries = ds' })) back low
+      (λ q lt n. other_phase x q n p 0 p.entries ds' (in_one p own) (ne_eqb 1 q (λ e. omega (arith, e, lt))))
 
   -- the due entries of a stub are taken, one after the other, with two instructions each
   pub take_all : (es1 es2 : List Receive) → p.entries ≡ es1 ++ es2 →
@@ -194,6 +157,6 @@ takes_move x node sensed times Fit any p own s size = record {
   below = λ q lt n. none_left x q n p 0 p.entries s.entries;
 }
 
--- nothing of a stub is due behind phase 1
+-- nothing of a stub is due after phase 1
 pub stub_quiet : (x : ℕ) (p : Stub) (s : StubNow) (q n : ℕ) → due_of x q n (Part.Outside p (taken x p s)) ≡ []
 stub_quiet x p s q n = none_left x q n p 0 p.entries s.entries

@@ -1,6 +1,6 @@
 -- The calls, drivers and guards of a module stand at their numbers.
-use Rattle.std.proofs.Common.{◌≡◌, ℕ, ◌+◌, List, [], ◌∷◌, ◌++◌, map, Bool, true, ◌||◌, ◌==◌, Some, filter, refl, ap, sym, ◌∙◌, arith}
-use Rattle.std.specs.Prelude.{slice_get, option_map, option_and_then, unwrap_or, is_some}
+use Rattle.std.proofs.Common.{◌≡◌, ℕ, ◌+◌, List, [], ◌∷◌, map, Bool, true, ◌||◌, ◌==◌, Some, refl, ap, sym, ◌∙◌, arith}
+use Rattle.std.specs.Prelude.{slice_get, option_map, option_and_then, unwrap_or}
 use Rattle.std.specs.List.{list_any}
 use Rattle.std.proofs.lemmas.Bool.{eqb-true, eq-eqb, and_parts, and_from}
 use Rattle.tdl_base.proofs.Tests.{eq_self}
@@ -13,6 +13,7 @@ use Rattle.tdl_mode.specs.declared.program.Invocation.{Invocation}
 use Rattle.tdl_mode.specs.declared.program.Update.{Update}
 use Rattle.tdl_mode.specs.Offsets.{ascending}
 use Rattle.tdl_verify.specs.Turns.{no_code}
+pub use Rattle.tdl_gen.specs.BlockNames.{guard_acts}
 use Rattle.tdl_gen.specs.BlockNames.{InMode, same_in_mode, activities, call_names, driver_names, guard_names, number_in}
 use Rattle.tdl_gen.specs.Tables.{coded, call_of, driver_of, guard_in, guard_of}
 use Rattle.tdl_gen.proofs.BlockPlaces.{named, any-ascending}
@@ -78,13 +79,6 @@ driver_found m k mode at n u here alike =
     (is_active (λ mode. map (λ v. v.act) mode.updates) m k u.act mode at
     (any-acts (λ (v : Update). v.act) u.act mode.updates ∙ some))
     ∙ ap Some (rw (at, found) (λ q. record { actuator = same.0 q; value = coded (same.1 q) }))
-
--- the guarded activities of a mode
-abbrev pub guard_acts : Mode → List ℕ
-guard_acts mode =
-    map (λ i. i.act) (filter (λ i. is_some i.guard) mode.invocations)
-    ++ map (λ u. u.act) (filter (λ u. is_some u.guard) mode.updates)
-    ++ map (λ s. s.act) (filter (λ s. is_some s.guard) mode.switches)
 
 -- the code of a guard stands at its activity's number
 pub guard_found : (m : Module) (k a : ℕ) (mode : Mode) (g : Expr) → slice_get m.modes k ≡ Some mode →

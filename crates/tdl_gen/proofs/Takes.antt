@@ -1,5 +1,5 @@
 -- The due receive entries of a stub, taken one after the other.
-use Rattle.std.proofs.Common.{◌≡◌, ℕ, suc, ◌+◌, ℤ, List, [], ◌∷◌, ◌++◌, length, true, false, ◌&&◌, ◌==◌, Some, None, filter, refl, ap, ap₂, sym, ◌∙◌, subst, subst₂, arith, append-nil}
+use Rattle.std.proofs.Common.{◌≡◌, ℕ, suc, ◌+◌, ℤ, List, [], ◌∷◌, ◌++◌, length, true, false, ◌&&◌, ◌==◌, Some, filter, refl, ap, ap₂, sym, ◌∙◌, subst, subst₂, arith, append-nil}
 use Rattle.std.specs.Prelude.{slice_get, option_map, unwrap_or, if◌then◌else◌}
 use Rattle.std.proofs.lemmas.Bool.{eq-eqb}
 use Rattle.tdl_trace.specs.Shown.{Shown}
@@ -7,24 +7,24 @@ use Rattle.tdl_ecode.specs.declared.instr.EInstr.TheVariants as ec
 use Rattle.tdl_ecode.specs.declared.instr.Block.{Block}
 use Rattle.tdl_image.specs.declared.stub.Stub.{Stub}
 use Rattle.tdl_image.specs.declared.stub.Receive.{Receive}
-use Rattle.tdl_verify.specs.States.{EntryNow, StubNow, Part, Times, Sensed}
-use Rattle.tdl_verify.specs.Turns.{Due, Spot, due_of, phase_of, is_at, code_at, block_of, taken_out, output_rows, due_entries, replaced_in, Acted, took}
+use Rattle.tdl_base.specs.Sensed.{Sensed}
+use Rattle.tdl_verify.specs.States.{EntryNow, StubNow, Part, Times}
+use Rattle.tdl_verify.specs.Turns.{Due, Spot, due_of, phase_of, is_at, code_at, due_block_number, taken_out, output_rows, due_entries, replaced_in}
 use Rattle.tdl_verify.specs.Runs.{is_plain}
 use Rattle.tdl_gen.specs.Tables.{take_block}
+pub use Rattle.tdl_gen.specs.Takes.{OwnBlocks}
+use Rattle.tdl_gen.specs.Takes.{freed}
 use Rattle.tdl_verify.proofs.Leads.{Leads, leads_on, one_on, one_over, begin, at_seam, changed-seam}
 use Rattle.tdl_verify.proofs.EndBlocks.{plain-outputs}
+use Rattle.tdl_verify.proofs.Replaced.{took-entry}
 use Rattle.tdl_verify.proofs.Sweeps.{NoneBelow, NoneDue, least_at}
-
--- each entry has a block of its own, which takes it
-abbrev pub OwnBlocks : Stub → Type 0
-OwnBlocks p = (n : ℕ) (e : Receive) → slice_get p.entries n ≡ Some e → slice_get p.blocks e.block ≡ Some (take_block n)
 
 -- the entries before these are not due
 abbrev pub NotDue : ℕ → List EntryNow → Type 0
 NotDue x [] = Unit {0}
 NotDue x (now ∷ more) = (is_at x now.due ≡ false) × NotDue x more
 
--- the first due entry is the one behind entries that are not due
+-- the first due entry is the one after entries that are not due
 due-past : (x k : ℕ) (p : Stub) (n : ℕ) (es : List Receive) (e : Receive) (es' : List Receive) (ds : List EntryNow)
     (now : EntryNow) (more : List EntryNow) → length es ≡ length ds → NotDue x ds →
     is_at x now.due ≡ true → phase_of p.blocks e.block ≡ 1 →
@@ -44,16 +44,6 @@ due-past x k p n (f ∷ es) e es' (d ∷ ds) now more size none due phase =
     ∙ due-past x k p (suc n) es e es' ds now more (omega (arith, size)) none.1 due phase
     ∙ ap (λ j. record { part = k; entry = j } ∷ due_entries x 1 k p (suc j) es' more) z
 
--- an entry that is there is taken: its copy becomes the outputs of its task
-took-entry : (x node : ℕ) (p : Stub) (s : StubNow) (pc r : ℕ) (e : Receive) (now : EntryNow) →
-    slice_get p.entries r ≡ Some e → slice_get s.entries r ≡ Some now →
-    took x node p s pc r ≡ Acted.On (Part.Outside p (record s {
-      outputs =
-          replaced_in e.task now.copy p.tasks s.outputs;
-    }))
-    (output_rows x node p.number.0 e.task now.copy) (suc pc)
-took-entry x node p s pc r e now a b = rw (a, b) refl
-
 module _ (x node : ℕ) (sensed : Sensed) (times : Times) (front back : List Part) (p : Stub) (own : OwnBlocks p) where
   -- at most so many instructions lead from one spot and these parts to another, with these plain rows
   abbrev Runs : ℕ → Spot → List Part → Spot → List Part → List Shown → Type 0
@@ -63,11 +53,7 @@ module _ (x node : ℕ) (sensed : Sensed) (times : Times) (front back : List Par
   abbrev here : StubNow → List Part
   here s = front ++ Part.Outside p s ∷ back
 
-  -- an entry that is no longer due
-  abbrev pub cleared : EntryNow → EntryNow
-  cleared now = record now { due = None }
-
-  -- one due entry, behind those that are not due
+  -- one due entry, after those that are not due
   pub take_one : (es : List Receive) (e : Receive) (es' : List Receive) → p.entries ≡ es ++ e ∷ es' →
       (outputs : List (List ℤ)) (ds : List EntryNow) (now : EntryNow) (more : List EntryNow) →
       length es ≡ length ds → NotDue x ds → is_at x now.due ≡ true →
@@ -76,16 +62,16 @@ module _ (x node : ℕ) (sensed : Sensed) (times : Times) (front back : List Par
       Spot.Between (here (record {
         outputs = replaced_in e.task now.copy p.tasks outputs;
         entries =
-            ds ++ cleared now ∷ more;
+            ds ++ freed now ∷ more;
       })) (output_rows x node p.number.0 e.task now.copy)
   take_one es e es' split outputs ds now more size none due low quiet =
       let n : ℕ = length ds in
       let s : StubNow = record { outputs = outputs; entries = ds ++ now ∷ more } in
-      let s1 : StubNow = record { outputs = outputs; entries = ds ++ cleared now ∷ more } in
+      let s1 : StubNow = record { outputs = outputs; entries = ds ++ freed now ∷ more } in
       let s2 : StubNow = record {
         outputs = replaced_in e.task now.copy p.tasks outputs;
         entries =
-            ds ++ cleared now ∷ more;
+            ds ++ freed now ∷ more;
       } in
       let at : slice_get p.entries n ≡ Some e = ap₂ (λ l j. slice_get l j) split (sym size) ∙ at_seam es e es' in
       let block : slice_get p.blocks e.block ≡ Some (take_block n) = own n e at in
@@ -100,18 +86,18 @@ module _ (x node : ℕ) (sensed : Sensed) (times : Times) (front back : List Par
       ∙ due-past x (length front) p 0 es e es' ds now more size none due phase
       ∙ ap (λ j. record { part = length front; entry = j }
       ∷ due_entries x 1 (length front) p (suc (0 + length ds)) es' more) z in
-      let cleared-at : taken_out d (Part.Outside p s) ≡ Part.Outside p s1 =
-      ap (λ es. Part.Outside p (record { outputs = outputs; entries = es })) (changed-seam cleared ds now more) in
+      let freed-at : taken_out d (Part.Outside p s) ≡ Part.Outside p s1 =
+      ap (λ es. Part.Outside p (record { outputs = outputs; entries = es })) (changed-seam freed ds now more) in
       let a : Runs 0 Spot.Between (here s) (Spot.In (length front) e.block 0) (here s1) [] =
       subst₂ (λ b ps. Runs 0 Spot.Between (here s) (Spot.In (length front) b 0) ps [])
-      (ap (λ o. unwrap_or (option_map (block_of d) o) 0) (at_seam front (Part.Outside p s) back)
+      (ap (λ o. unwrap_or (option_map (due_block_number d) o) 0) (at_seam front (Part.Outside p s) back)
       ∙ ap (λ o. unwrap_or (option_map (λ (r : Receive). r.block) o) 0) at)
-      (changed-seam (taken_out d) front (Part.Outside p s) back ∙ ap (λ q. front ++ q ∷ back) cleared-at)
+      (changed-seam (taken_out d) front (Part.Outside p s) back ∙ ap (λ q. front ++ q ∷ back) freed-at)
       (begin x node sensed times (here s) d (least_at x 1 front (Part.Outside p s) back d _ (omega arith)
       (omega arith) low quiet first)) in
       let b = one_on x node sensed times front (Part.Outside p s1) back e.block 0 (ec.Take n) (Part.Outside p s2)
       (output_rows x node p.number.0 e.task now.copy) 1 (ap (λ c. slice_get c 0) code)
-      (took-entry x node p s1 0 n e (cleared now) at (at_seam ds (cleared now) more)) in
+      (took-entry x node p s1 0 n e (freed now) at (at_seam ds (freed now) more)) in
       let c = one_over x node sensed times front (Part.Outside p s2) back e.block 1 ec.Return (Part.Outside p s2) []
       (ap (λ c. slice_get c 1) code) refl in
       subst (λ rs. Runs 2 Spot.Between (here s) Spot.Between (here s2) rs)

@@ -1,29 +1,31 @@
 -- The block of phase 2: the updates of actuators.
 use Rattle.std.proofs.Common.{◌≡◌, ℕ, suc, ◌+◌, ◌≤◌, ℤ, List, [], ◌∷◌, ◌++◌, length, Bool, true, false, Option, Some, None, refl, ap, sym, ◌∙◌, subst, subst₂, arith, append_assoc, append-nil}
-use Rattle.std.specs.Prelude.{slice_get, option_map, unwrap_or, if◌then◌else◌, find}
+use Rattle.std.specs.Prelude.{slice_get, option_map, unwrap_or, if◌then◌else◌}
 use Rattle.std.proofs.lemmas.List.{length-append}
 use Rattle.tdl_base.specs.Lists.{changed_at, joined, numbered}
 use Rattle.tdl_base.specs.Numbers.{narrowed}
 use Rattle.tdl_base.specs.declared.kinds.Kind.{Kind}
-use Rattle.tdl_base.specs.declared.kinds.Kind.TheVariants.{Long}
 use Rattle.tdl_body.specs.Values.{Look, value_of, holds}
 use Rattle.tdl_mode.specs.declared.program.Module.{Module}
 use Rattle.tdl_mode.specs.declared.program.Update.{Update}
 use Rattle.tdl_trace.specs.Shown.{Shown}
-use Rattle.tdl_deploy.specs.Rows.{listed}
+use Rattle.std.specs.Option.{option_to_list}
 use Rattle.tdl_ecode.specs.declared.instr.EInstr.{EInstr}
 use Rattle.tdl_ecode.specs.declared.instr.EInstr.TheVariants as ec
 use Rattle.tdl_image.specs.declared.hosted.Hosted.{Hosted}
-use Rattle.tdl_verify.specs.States.{HostNow, Part, Times, Sensed, value_on}
-use Rattle.tdl_verify.specs.Turns.{Acted, Spot, code_at, called}
-use Rattle.tdl_gen.specs.BlockNames.{guard_names, driver_names, number_in}
+use Rattle.tdl_base.specs.Sensed.{Sensed}
+use Rattle.tdl_verify.specs.States.{HostNow, Part, Times, value_on}
+use Rattle.tdl_verify.specs.Turns.{Acted, Spot, code_at, call_acts}
+use Rattle.tdl_gen.specs.BlockNames.{driver_names, number_in}
 use Rattle.tdl_gen.specs.Blocks.{laid, update_code}
 use Rattle.tdl_gen.specs.Tables.{coded}
+pub use Rattle.tdl_gen.specs.HostSteps.{AtMostOne}
+use Rattle.tdl_gen.specs.HostSteps as steps
 use Rattle.tdl_verify.proofs.Leads.{Leads, nothing, leads_on, wider, one_on, changed-seam}
 use Rattle.tdl_verify.proofs.EndBlocks.{HasAt, has-append}
-use Rattle.tdl_gen.proofs.Guards.{Reads, HasGuard, cost, guard_length, guard_true, guard_false}
+use Rattle.tdl_gen.proofs.Guards.{Reads, cost, guard_length, guard_true, guard_false}
 
--- codes of a list and of another behind it
+-- codes of a list and of another after it
 pub laid-append : {A : Type 0} (code : ℕ → A → List EInstr) (index : ℕ) (xs ys : List A) →
     laid code index (xs ++ ys) ≡ laid code index xs ++ laid code (index + length (laid code index xs)) ys
 laid-append code index [] ys = let q : index ≡ index + 0 = omega arith in ap (λ n. laid code n ys) q
@@ -34,12 +36,6 @@ laid-append code index (x ∷ xs) ys =
     omega (arith, length-append here (laid code next xs)) in
     ap (λ c. here ++ c) (laid-append code next xs ys ∙ ap (λ n. laid code next xs ++ laid code n ys) q)
     ∙ sym (append_assoc here (laid code next xs) (laid code (index + length (here ++ laid code next xs)) ys))
-
--- at most one item
-abbrev pub AtMostOne : {A : Type 0} → List A → Type 0
-AtMostOne [] = Unit {0}
-AtMostOne (a ∷ []) = Unit {0}
-AtMostOne (a ∷ b ∷ more) = ⊥
 
 module _ (x node : ℕ) (sensed : Sensed) (times : Times) (h : Hosted) (b : ℕ) (front back : List Part) (m : Module)
     (k : ℕ) (look : Look) where
@@ -61,41 +57,39 @@ module _ (x node : ℕ) (sensed : Sensed) (times : Times) (h : Hosted) (b : ℕ)
 
   -- the kind of an actuator
   abbrev pub kind_at : ℕ → Kind
-  kind_at a = unwrap_or (option_map (λ p. p.kind) (slice_get h.actuators a)) Long
+  kind_at a = steps.kind_at h a
 
   -- the update's driver and guard stand at their numbers
-  pub record HasUpdate (a : ℕ) (u : Update) : Type 0 where
-    pub driver : slice_get h.drivers (number_in (driver_names m) k u.act) ≡
-        Some (record { actuator = a; value = coded u.value })
-    pub guard : HasGuard h (number_in (guard_names m) k u.act) u.guard
+  abbrev pub HasUpdate : ℕ → Update → Type 0
+  HasUpdate a u = steps.HasUpdate h m k a u
 
   -- what is taken of the updates of one actuator
   abbrev pub value_taken : ℕ → List Update → Option ℤ
-  value_taken a us = option_map (λ u. narrowed (kind_at a) (value_of u.value look)) (find (λ u. holds u.guard look) us)
+  value_taken a us = steps.value_taken h look a us
 
   -- the row of an actuator that is updated
   abbrev pub updated_rows : ℕ → Option ℤ → List Shown
-  updated_rows a v = listed (option_map (λ w. Shown.Updated x node h.number.0 a w) v)
+  updated_rows a v = option_to_list (option_map (λ w. Shown.Act x node h.number.0 a w) v)
 
   -- the call of a driver updates its actuator
   one_call : (s : HostNow) (ds vs : List ℤ) (v : ℤ) (pc a d : ℕ) (u : Update) → a ≡ length ds →
       slice_get h.drivers d ≡ Some (record { actuator = a; value = coded u.value }) →
       Reads (parts (with_actuators s (ds ++ v ∷ vs))) sensed h.number.0 look →
       let w : ℤ = narrowed (kind_at a) (value_of u.value look) in
-      called x node (value_on (parts (with_actuators s (ds ++ v ∷ vs))) sensed h.number.0) h
+      call_acts x node (value_on (parts (with_actuators s (ds ++ v ∷ vs))) sensed h.number.0) h
       (with_actuators s (ds ++ v ∷ vs)) pc d
-      ≡ Acted.On (Part.Host h (with_actuators s (ds ++ w ∷ vs))) (Shown.Updated x node h.number.0 a w ∷ []) (suc pc)
+      ≡ Acted.On (Part.Host h (with_actuators s (ds ++ w ∷ vs))) (Shown.Act x node h.number.0 a w ∷ []) (suc pc)
   one_call s ds vs v pc a d u is at reads =
       let value : ℤ → Acted = λ n. Acted.On (Part.Host h
       (with_actuators s (changed_at a (λ _. narrowed (kind_at a) n) (ds ++ v ∷ vs))))
-      (Shown.Updated x node h.number.0 a (narrowed (kind_at a) n) ∷ []) (suc pc) in
+      (Shown.Act x node h.number.0 a (narrowed (kind_at a) n) ∷ []) (suc pc) in
       let w : ℤ = narrowed (kind_at a) (value_of u.value look) in
-      let first : called x node (value_on (parts (with_actuators s (ds ++ v
+      let first : call_acts x node (value_on (parts (with_actuators s (ds ++ v
       ∷ vs))) sensed h.number.0) h (with_actuators s (ds ++ v ∷ vs)) pc d ≡
       value (value_on (parts (with_actuators s (ds ++ v ∷ vs))) sensed h.number.0 (coded u.value)) = rw at refl in
       first
       ∙ ap value (reads u.value)
-      ∙ ap (λ acts. Acted.On (Part.Host h (with_actuators s acts)) (Shown.Updated x node h.number.0 a w ∷ [])
+      ∙ ap (λ acts. Acted.On (Part.Host h (with_actuators s acts)) (Shown.Act x node h.number.0 a w ∷ [])
       (suc pc)) (ap (λ n. changed_at n (λ _. w) (ds ++ v ∷ vs)) is ∙ changed-seam (λ _. w) ds v vs)
 
   -- so many instructions lead past an actuator's updates: it takes the value, and its row is shown
@@ -119,14 +113,14 @@ module _ (x node : ℕ) (sensed : Sensed) (times : Times) (h : Hosted) (b : ℕ)
       let in' = guard_true x node sensed times h b front back m k u.act look u.guard s' pc (ec.Call d ∷ [])
       (reads (ds ++ v ∷ vs)) has.guard at t in
       let call = one_on x node sensed times front (Part.Host h s') back b (pc + cost u.guard) (ec.Call d)
-      (Part.Host h (with_actuators s (ds ++ w ∷ vs))) (Shown.Updated x node h.number.0 a w ∷ [])
+      (Part.Host h (with_actuators s (ds ++ w ∷ vs))) (Shown.Act x node h.number.0 a w ∷ [])
       (suc (pc + cost u.guard)) in'.1.0
       (one_call s ds vs v (pc + cost u.guard) a d u is has.driver (reads (ds ++ v ∷ vs))) in
       let l : cost u.guard + 1 ≡ length (update_code m k pc u) =
       sym (guard_length x node sensed times h b front back m k u.act look u.guard pc (ec.Call d ∷ [])) in
       let r : suc (pc + cost u.guard) ≡ pc + length (update_code m k pc u) = omega (arith, l) in
       subst₂ (λ n q. Runs n (spot pc) (parts s') (spot q) (parts (with_actuators s (ds ++ w ∷ vs)))
-      (Shown.Updated x node h.number.0 a w ∷ [])) l r
+      (Shown.Act x node h.number.0 a w ∷ [])) l r
       (leads_on x node sensed times (cost u.guard) 1 _ _ _ _ _ _ _ _ in'.0 call)
   update_guarded s ds vs v pc a u false t is has reads at =
       let s' : HostNow = with_actuators s (ds ++ v ∷ vs) in
@@ -139,8 +133,7 @@ module _ (x node : ℕ) (sensed : Sensed) (times : Times) (h : Hosted) (b : ℕ)
 
   -- the drivers and guards of all these updates stand at their numbers
   abbrev pub AllHave : ℕ → List Update → Type 0
-  AllHave a [] = Unit {0}
-  AllHave a (u ∷ us) = HasUpdate a u × AllHave a us
+  AllHave a us = steps.AllHave h m k a us
 
   -- the code of the updates of one actuator
   updates_one : (us : List Update) (s : HostNow) (ds vs : List ℤ) (v : ℤ) (pc a : ℕ) → AtMostOne us → a ≡ length ds →
@@ -163,16 +156,15 @@ module _ (x node : ℕ) (sensed : Sensed) (times : Times) (h : Hosted) (b : ℕ)
 
   -- each actuator has at most one update, whose driver and guard stand at their numbers
   abbrev pub AllOnce : (ℕ → List Update) → ℕ → List ℤ → Type 0
-  AllOnce f n [] = Unit {0}
-  AllOnce f n (v ∷ vs) = (AtMostOne (f n) × AllHave n (f n)) × AllOnce f (suc n) vs
+  AllOnce f n vs = steps.AllOnce h m k f n vs
 
   -- the actuators after the updates
   abbrev pub updated : (ℕ → List Update) → ℕ → List ℤ → List ℤ
-  updated f n vs = numbered n (λ a v. unwrap_or (value_taken a (f a)) v) vs
+  updated f n vs = steps.updated h look f n vs
 
   -- the rows of all actuators that are updated
   abbrev pub all_rows : (ℕ → List Update) → ℕ → List ℤ → List Shown
-  all_rows f n vs = joined (numbered n (λ a v. updated_rows a (value_taken a (f a))) vs)
+  all_rows f n vs = steps.updated_rows x node h look f n vs
 
   -- the code of the updates of all actuators
   pub updates_run : {A : Type 0} (f : ℕ → List Update) (actuators : List A) (s : HostNow) (ds vs : List ℤ)

@@ -63,13 +63,16 @@ call_names m = activities (λ mode. map (λ i. i.act) mode.invocations) m
 abbrev pub driver_names : Module → List InMode
 driver_names m = activities (λ mode. map (λ u. u.act) mode.updates) m
 
--- the guarded activities: a guard for each
-abbrev pub guard_names : Module → List InMode
-guard_names m =
-    activities (λ mode.
+-- the guarded activities of a mode
+abbrev pub guard_acts : Mode → List ℕ
+guard_acts mode =
     map (λ i. i.act) (filter (λ i. is_some i.guard) mode.invocations)
     ++ map (λ u. u.act) (filter (λ u. is_some u.guard) mode.updates)
-    ++ map (λ s. s.act) (filter (λ s. is_some s.guard) mode.switches)) m
+    ++ map (λ s. s.act) (filter (λ s. is_some s.guard) mode.switches)
+
+-- the guarded activities: a guard for each
+abbrev pub guard_names : Module → List InMode
+guard_names m = activities guard_acts m
 
 -- the invocations: a release for each
 abbrev pub release_names : Module → List InMode

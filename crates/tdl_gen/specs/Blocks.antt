@@ -14,10 +14,14 @@ use Rattle.tdl_mode.specs.declared.program.Switch.{Switch}
 use Rattle.tdl_mode.specs.Offsets.{next_offset}
 use Rattle.tdl_gen.specs.BlockNames.{BlockName, block_names, block_number, driver_names, guard_names, release_names, number_in}
 
--- the instructions, behind an `if` to the instruction after them where the activity is guarded; the first at this index
+-- the index after an instruction at an index and so many more
+abbrev pub index_after : ℕ → List EInstr → ℕ
+index_after index code = suc index + length code
+
+-- the instructions, after an `if` to the instruction after them where the activity is guarded; the first at this index
 abbrev pub guarded : Module → ℕ → ℕ → Option Expr → ℕ → List EInstr → List EInstr
 guarded m k act None index code = code
-guarded m k act (Some guard) index code = e.If (number_in (guard_names m) k act) (suc index + length code) ∷ code
+guarded m k act (Some guard) index code = e.If (number_in (guard_names m) k act) (index_after index code) ∷ code
 
 -- the instructions of items, one after the other, the first at this index
 abbrev pub laid : {A : Type 0} → (ℕ → A → List EInstr) → ℕ → List A → List EInstr

@@ -7,12 +7,12 @@ use Rattle.tdl_mode.specs.declared.program.Mode.{Mode}
 use Rattle.tdl_mode.specs.Offsets.{offsets}
 use Rattle.tdl_deploy.specs.declared.placement.Placement.{Placement}
 use Rattle.tdl_deploy.specs.declared.schedule.Schedule.{Schedule}
-use Rattle.tdl_deploy.specs.Placed.{hosts}
+use Rattle.tdl_deploy.specs.Placed.{hosts, imports}
 use Rattle.tdl_image.specs.declared.stub.Stub.{Stub}
 use Rattle.tdl_image.specs.declared.stub.Receive.{Receive}
 use Rattle.tdl_gen.specs.BlockNames.{BlockName}
 use Rattle.tdl_gen.specs.Blocks.{block_of}
-use Rattle.tdl_gen.specs.Tables.{stubs_on}
+use Rattle.tdl_gen.specs.Tables.{stub_of, stubs_on}
 
 -- the greatest of some numbers, 0 where there is none
 abbrev pub greatest : List ℕ → ℕ
@@ -50,8 +50,14 @@ module_count m =
 abbrev pub stub_count : Stub → ℕ
 stub_count s = 2 * greatest (map (λ (e : Receive). count_by (λ (d : Receive). d.mode == e.mode) s.entries) s.entries)
 
+-- the part of module k on a node: as it is hosted there, or its stub, or nothing
+abbrev pub part_count : Program → Placement → Schedule → ℕ → ℕ → Module → ℕ
+part_count program placement schedule node k m =
+    if hosts placement node k then module_count m
+    else (if imports program placement node k then stub_count (stub_of program placement schedule k m) else 0)
+
 -- the declared count of a node
 abbrev pub declared_of : Program → Placement → Schedule → ℕ → ℕ
-declared_of p pl s node =
-    sum (joined (numbered 0 (λ k m. if hosts pl node k then module_count m ∷ [] else []) p.modules))
-    + sum (map stub_count (stubs_on p pl s node))
+declared_of program placement schedule node =
+    sum (joined (numbered 0 (λ k m. if hosts placement node k then module_count m ∷ [] else []) program.modules))
+    + sum (map stub_count (stubs_on program placement schedule node))

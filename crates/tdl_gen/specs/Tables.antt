@@ -1,11 +1,12 @@
 -- The images of a program: its tables on each node.
 use Rattle.std.specs.Prelude.{ℕ, ◌+◌, ◌-◌, Bool, not, ◌==◌, ◌&&◌, ◌||◌, nat_lt, List, [], ◌∷◌, map, filter, find, Option, option_map, option_and_then, unwrap_or, slice_get, if◌then◌else◌}
 use Rattle.std.specs.Option.{option_or}
-use Rattle.tdl_base.specs.Lists.{joined, numbered}
+use Rattle.tdl_base.specs.Lists.{joined, numbered, inserted}
 use Rattle.tdl_body.specs.declared.tree.Expr.{Expr}
 use Rattle.tdl_mode.specs.declared.program.Program.{Program}
 use Rattle.tdl_mode.specs.declared.program.Module.{Module}
 use Rattle.tdl_mode.specs.declared.program.Mode.{Mode}
+use Rattle.tdl_mode.specs.declared.program.Invocation.{Invocation}
 use Rattle.tdl_mode.specs.declared.program.Task.{Task}
 use Rattle.tdl_mode.specs.declared.program.PortDef.{PortDef}
 use Rattle.tdl_deploy.specs.declared.placement.Placement.{Placement}
@@ -119,23 +120,18 @@ is_before v w =
     nat_lt v.mode w.mode || (v.mode == w.mode && (nat_lt v.invocation w.invocation || (v.invocation == w.invocation
     && ((not v.bus && w.bus) || ((v.bus && w.bus || not v.bus && not w.bus) && nat_lt v.offset w.offset)))))
 
--- a window in its place among windows in order, behind its equals
-abbrev pub placed : ImageWindow → List ImageWindow → List ImageWindow
-placed w [] = w ∷ []
-placed w (v ∷ vs) = if is_before w v then w ∷ v ∷ vs else v ∷ placed w vs
-
 -- windows, each in its place among those that are in order
 abbrev pub ordered_from : List ImageWindow → List ImageWindow → List ImageWindow
-ordered_from done [] = done
-ordered_from done (w ∷ ws) = ordered_from (placed w done) ws
+ordered_from ordered [] = ordered
+ordered_from ordered (w ∷ ws) = ordered_from (inserted is_before w ordered) ws
 
 -- the windows of module m, in order
 abbrev pub windows_of : Schedule → ℕ → List ImageWindow
-windows_of s m = ordered_from [] (map image_window (filter (λ w. w.module.0 == m) s.windows))
+windows_of schedule m = ordered_from [] (map image_window (filter (λ w. w.module.0 == m) schedule.windows))
 
 -- module m where it is hosted
 abbrev pub hosted_of : Schedule → ℕ → Module → Hosted
-hosted_of s k m = record {
+hosted_of schedule k m = record {
   number = record { 0 = k };
   name = m.name;
   sensors = kind_names m.sensors;
@@ -146,7 +142,7 @@ hosted_of s k m = record {
   releases = map (release_of m) (release_names m);
   guards = map (guard_of m) (guard_names m);
   drivers = map (driver_of m) (driver_names m);
-  windows = windows_of s k;
+  windows = windows_of schedule k;
   blocks = blocks_of m;
   entry = block_number m BlockName.Boot;
 }
@@ -159,23 +155,27 @@ stub_tasks m =
 
 -- where the bus window of an invocation ends, in its cycle
 abbrev pub bus_end : Schedule → ℕ → ℕ → ℕ → ℕ
-bus_end s m k n =
+bus_end schedule m k n =
     unwrap_or (option_map (λ w. w.offset + w.length)
-    (find (λ w. is_bus w.resource && (w.module.0 == m && (w.mode.0 == k && w.invocation == n))) s.windows)) 0
+    (find (λ w. is_bus w.resource && (w.module.0 == m && (w.mode.0 == k && w.invocation == n))) schedule.windows)) 0
+
+-- how long after the end of its bus window the outputs of an invocation are due
+abbrev pub delta_of : Schedule → ℕ → ℕ → ℕ → Invocation → ℕ
+delta_of schedule m k n i = i.e.0 - bus_end schedule m k n
 
 -- the invocations of a task in a mode, with what follows their frames' arrival; the blocks are numbered later
 abbrev pub receives_in : Schedule → ℕ → ℕ → ℕ → Mode → List Receive
-receives_in s m t k mode =
+receives_in schedule m t k mode =
     joined (numbered 1 (λ n i. if i.task.0 == t
-    then record { mode = k; invocation = n; task = t; delta = i.e.0 - bus_end s m k n; block = 0 } ∷ []
+    then record { mode = k; invocation = n; task = t; delta = delta_of schedule m k n i; block = 0 } ∷ []
     else []) mode.invocations)
 
 -- an entry for each remote invocation, by task, mode and number, each with its own block
 abbrev pub receives : Program → Placement → Schedule → ℕ → Module → List Receive
-receives p pl s k m =
+receives program placement schedule k m =
     numbered 0 (λ r (e : Receive). record e { block = r })
     (joined (numbered 0 (λ t task.
-    if is_remote p pl k task then joined (numbered 0 (receives_in s k t) m.modes) else []) m.tasks))
+    if is_remote program placement k task then joined (numbered 0 (receives_in schedule k t) m.modes) else []) m.tasks))
 
 -- the block of entry r
 abbrev pub take_block : ℕ → Block
@@ -183,20 +183,23 @@ take_block r = record { phase = 1; code = e.Take r ∷ e.Return ∷ [] }
 
 -- the stub of module m
 abbrev pub stub_of : Program → Placement → Schedule → ℕ → Module → Stub
-stub_of p pl s k m = record {
+stub_of program placement schedule k m = record {
   number = record { 0 = k };
   name = m.name;
   tasks = stub_tasks m;
-  entries = receives p pl s k m;
-  blocks = map (λ (e : Receive). take_block e.block) (receives p pl s k m);
+  entries = receives program placement schedule k m;
+  blocks = map (λ (e : Receive). take_block e.block) (receives program placement schedule k m);
 }
 
 -- the modules that a node hosts, in order of their numbers
 abbrev pub hosted_on : Program → Placement → Schedule → ℕ → List Hosted
-hosted_on p pl s node = joined (numbered 0 (λ k m. if hosts pl node k then hosted_of s k m ∷ [] else []) p.modules)
+hosted_on program placement schedule node =
+    joined (numbered 0 (λ k m.
+    if hosts placement node k then hosted_of schedule k m ∷ [] else []) program.modules)
 
 -- the stubs of a node: of the modules that its own import and that it does not host
 abbrev pub stubs_on : Program → Placement → Schedule → ℕ → List Stub
-stubs_on p pl s node =
+stubs_on program placement schedule node =
     joined (numbered 0 (λ k m.
-    if not (hosts pl node k) && imports p pl node k then stub_of p pl s k m ∷ [] else []) p.modules)
+    if not (hosts placement node k) && imports program placement node k
+    then stub_of program placement schedule k m ∷ [] else []) program.modules)

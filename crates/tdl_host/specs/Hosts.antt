@@ -1,15 +1,16 @@
 -- One hosted module as its machine holds it, and the words that the machine's calls use.
 use Rattle.std.specs.Prelude.{◌≡◌, ◌≤◌, All, ℕ, suc, ◌++◌, ℤ, Bool, true, false, ◌==◌, ◌&&◌, nat_le, if◌then◌else◌, List, [], ◌∷◌, filter, Option, Some, None, option_map, option_and_then, unwrap_or, slice_get, find}
+use Rattle.tdl_base.specs.declared.numbers.TheConstants.{FIRST_NODE}
 use Rattle.tdl_base.specs.Lists.{changed_at}
 use Rattle.tdl_trace.specs.Shown.{Shown}
 use Rattle.tdl_scen.specs.declared.entries.Sense.{Sense}
 use Rattle.tdl_scen.specs.Scenario.{course_of}
 use Rattle.tdl_stack.specs.declared.instr.Code.{Code}
-use Rattle.tdl_stack.specs.Running.{Look}
+use Rattle.tdl_stack.specs.Running.{Outer}
 use Rattle.tdl_ecode.specs.declared.instr.EInstr.{EInstr}
 use Rattle.tdl_image.specs.declared.hosted.Hosted.{Hosted}
 use Rattle.tdl_image.specs.declared.hosted.TaskTable.{TaskTable}
-use Rattle.tdl_verify.specs.States.{Slot, TaskNow, Trigger, HostNow, Part, Times, look_on, value_on}
+use Rattle.tdl_verify.specs.States.{Slot, TaskNow, Trigger, HostNow, Part, Times, outer_on, value_on}
 use Rattle.tdl_verify.specs.Turns.{Acted, Spot, Turned, host_acts, phase_of, turn}
 use Rattle.tdl_verify.specs.Runs.{is_plain}
 use Rattle.tdl_node.specs.Machines.{plain_turned}
@@ -33,8 +34,8 @@ abbrev pub trigger_now : Alarm → Trigger
 trigger_now a = record { at = a.at; block = a.block }
 
 -- the outputs of task t; none where there is no such task
-abbrev pub outputs_of : HostNow → ℕ → List ℤ
-outputs_of s t = unwrap_or (option_map (λ u. u.outputs) (slice_get s.tasks t)) []
+abbrev pub task_outputs : HostNow → ℕ → List ℤ
+task_outputs s t = unwrap_or (option_map (λ u. u.outputs) (slice_get s.tasks t)) []
 
 -- of each task at most so many jobs were released
 pub record HasReleased (bound : ℕ) (s : HostNow) : Type 0 where
@@ -71,40 +72,44 @@ pub record IsCommittedAt (t : ℕ) (old new : HostNow) : Type 0 where
   pub invocation : ℕ
   pub outputs : List ℤ
   pub was : slot_of old t ≡ Slot.Done mode invocation outputs
-  pub now : new ≡ record old { tasks = changed_at t (λ (u : TaskNow). record u { outputs = outputs; slot = Slot.Idle }) old.tasks }
-  pub shown : outputs_of new t ≡ outputs
+  pub now : new
+      ≡ record old
+      { tasks = changed_at t (λ (u : TaskNow). record u { outputs = outputs; slot = Slot.Idle }) old.tasks }
+  pub shown : task_outputs new t ≡ outputs
 
 -- a task with one more job, which is ready for so long
 abbrev pub with_job : ℕ → ℕ → ℕ → List ℤ → TaskNow → TaskNow
-with_job mode invocation left cells u = record u { slot = Slot.Ready mode invocation left cells; released = suc u.released }
+with_job mode invocation left cells u =
+    record u { slot = Slot.Ready mode invocation left cells; released = suc u.released }
 
 -- ---- what its codes read, and how long its jobs take
 
 -- what the codes of a module read at instant x
-abbrev pub look_at : Hosted → HostNow → List Sense → ℕ → Look
-look_at h s senses x = look_on (Part.Host h s ∷ []) (course_of senses x) h.number.0
+abbrev pub outer_at : Hosted → HostNow → List Sense → ℕ → Outer
+outer_at h s senses x = outer_on (Part.Host h s ∷ []) (course_of senses x) h.number.0
 
 -- the number of a code of the module at instant x
 abbrev pub value_at : Hosted → HostNow → List Sense → ℕ → Code → ℤ
 value_at h s senses x code = value_on (Part.Host h s ∷ []) (course_of senses x) h.number.0 code
 
 -- each job takes its task's worst case
-abbrev pub worst_of : Hosted → Times
-worst_of h m t k =
+abbrev pub worst_times : Hosted → Times
+worst_times h m t k =
     unwrap_or (option_map (λ (table : TaskTable). table.worst)
     (option_and_then (λ (own : Hosted). slice_get own.tasks t) (find (λ (own : Hosted). own.number.0 == m) (h ∷ [])))) 0
 
 -- ---- instructions
 
--- what an instruction did, its rows behind those that are there
-abbrev pub behind : List Shown → Acted → Acted
-behind rows (Acted.On p more pc) = Acted.On p (rows ++ more) pc
-behind rows (Acted.Over p more) = Acted.Over p (rows ++ more)
-behind rows (Acted.Stop reason) = Acted.Stop reason
+-- what an instruction did, its rows after those that are there
+abbrev pub with_rows_before : List Shown → Acted → Acted
+with_rows_before rows (Acted.On p more pc) = Acted.On p (rows ++ more) pc
+with_rows_before rows (Acted.Over p more) = Acted.Over p (rows ++ more)
+with_rows_before rows (Acted.Stop reason) = Acted.Stop reason
 
--- what an instruction of the module does at instant x on the first node, behind rows
+-- what an instruction of the module does at instant x on the first node, after rows
 abbrev pub acts : Hosted → List Sense → ℕ → List Shown → HostNow → ℕ → EInstr → Acted
-acts h senses x rows s pc i = behind rows (host_acts x 0 (value_at h s senses x) (worst_of h) h s pc i)
+acts h senses x rows s pc i =
+    with_rows_before rows (host_acts x FIRST_NODE.0 (value_at h s senses x) (worst_times h) h s pc i)
 
 -- the block of a module goes on
 abbrev pub went : Next → Hosted → HostNow → List Shown → Acted
@@ -116,7 +121,7 @@ went Next.Over h s rows = Acted.Over (Part.Host h s) rows
 -- what a turn of the module comes to, with so many instructions left, without log lines
 abbrev pub host_turn : ℕ → Hosted → List Sense → ℕ → Spot → HostNow → List Shown → Turned
 host_turn n h senses x spot s rows =
-    plain_turned (turn n x 0 (course_of senses x) (worst_of h) spot (Part.Host h s ∷ []) rows)
+    plain_turned (turn n x FIRST_NODE.0 (course_of senses x) (worst_times h) spot (Part.Host h s ∷ []) rows)
 
 -- where a turn of the module stands
 abbrev pub spot_now : Standing → Spot
@@ -129,9 +134,9 @@ due_block x h None = None
 due_block x h (Some t) = if t.at == x && nat_le (phase_of h.blocks t.block) 4 then Some t.block else None
 
 -- the state once a due trigger was taken out
-abbrev pub taken : Option ℕ → HostNow → HostNow
-taken None s = s
-taken (Some b) s = record s { trigger = None }
+abbrev pub trigger_taken : Option ℕ → HostNow → HostNow
+trigger_taken None s = s
+trigger_taken (Some b) s = record s { trigger = None }
 
 -- what goes on at a place, or the end of the turn
 abbrev pub picked_by : (ℕ → ℕ → ℕ → List Part → Turned) → Hosted → HostNow → List Shown → Option Place → Turned
@@ -139,14 +144,9 @@ picked_by go h s rows None = Turned.Finished (Part.Host h s ∷ []) rows
 picked_by go h s rows (Some place) = go 0 place.block place.pc (Part.Host h s ∷ [])
 
 -- what a turn comes to after one step
-abbrev pub stepped : ℕ → Hosted → List Sense → ℕ → HostNow → List Shown → Stepped → Turned
-stepped n h senses x s rows Stepped.Finished = Turned.Finished (Part.Host h s ∷ []) (filter is_plain rows)
-stepped n h senses x s rows (Stepped.On standing) = host_turn n h senses x (spot_now standing) s rows
-
--- what is there, as a list
-abbrev pub as_list : {A : Type 0} → Option A → List A
-as_list None = []
-as_list (Some a) = a ∷ []
+abbrev pub after_step : ℕ → Hosted → List Sense → ℕ → HostNow → List Shown → Stepped → Turned
+after_step n h senses x s rows Stepped.Finished = Turned.Finished (Part.Host h s ∷ []) (filter is_plain rows)
+after_step n h senses x s rows (Stepped.On standing) = host_turn n h senses x (spot_now standing) s rows
 
 -- ---- the machine
 

@@ -1,16 +1,17 @@
 ghost use Rattle.std.specs.Prelude.{◌≡◌, ◌++◌, ◌+◌, ◌-◌, ◌<◌, ◌^◌, ℕ, suc, List, IfOk, OnOk, IfErr, option_map, unwrap_or, slice_get, replicate, length, pos};
+ghost use Rattle.tdl_base.specs.declared.numbers.TheConstants.{FIRST_NODE};
 ghost use Rattle.tdl_base.specs.declared.kinds.Kind.TheVariants.{Long};
 ghost use Rattle.tdl_base.specs.Numbers.{is_true};
 ghost use Rattle.tdl_trace.specs.Shown.{Shown};
 ghost use Rattle.tdl_verify.specs.States.{Part};
 ghost use Rattle.tdl_verify.specs.Turns.{Acted, output_rows, no_code, arguments};
 ghost use Rattle.tdl_node.specs.Machines.{IsTrap};
-ghost use Rattle.tdl_host.specs.Hosts.{HasReleased, acts, value_at, outputs_of, went};
+ghost use Rattle.tdl_host.specs.Hosts.{HasReleased, acts, value_at, task_outputs, went};
 
 use crate::seen::{Scene, arguments, value};
 use crate::state::HostState;
 use std::alloc::Global;
-use tdl_base::{Kind, Listed, ModeId, ModuleId, NoMemory, NodeId, TaskId, Us, narrow};
+use tdl_base::{FIRST_NODE, Kind, Listed, ModeId, ModuleId, NoMemory, TaskId, Us, narrow};
 use tdl_ecode::EInstr;
 use tdl_image::{CallEntry, Hosted, ReleaseEntry, TaskTable};
 use tdl_node::Stop;
@@ -33,7 +34,8 @@ fn put_outputs(
     outputs: &[i64],
     rows: &mut Rows,
 ) -> Result<(), NoMemory>
-    ensures { OnOk result (rows.new ≡ rows.old ++ output_rows at 0 owner.0 task outputs.now) }
+    ensures { OnOk result
+        (rows.new ≡ rows.old ++ output_rows at FIRST_NODE.0 owner.0 task outputs.now) }
 {
     for (i, value) in outputs.iter().enumerate() {
         let Ok(output) = u16::try_from(i) else {
@@ -41,7 +43,7 @@ fn put_outputs(
         };
         rows.push(Row::Port {
             at: Us(u64::from(at)),
-            node: NodeId(0),
+            node: FIRST_NODE,
             module: owner,
             task: TaskId(task),
             output,
@@ -53,8 +55,14 @@ fn put_outputs(
 
 /// Ends the job of a task: commits a done one, and puts its outputs.
 fn end(scene: Scene, state: &mut HostState, task: u16, rows: &mut Rows) -> Result<(), Stop>
-    ensures ok { OnOk result ((pc : ℕ) → acts scene.entry.hosted.now scene.entry.senses.now scene.entry.at rows.old state.old pc (EInstr.End task) ≡ Acted.On (Part.Host scene.entry.hosted.now state.new) rows.new (suc pc)) }
-    ensures trapped { IfErr result (IsTrap (λ reason. (pc : ℕ) → acts scene.entry.hosted.now scene.entry.senses.now scene.entry.at rows.old state.old pc (EInstr.End task) ≡ Acted.Stop reason)) }
+    ensures ok { OnOk result
+        ((pc : ℕ) → acts scene.entry.hosted.now scene.entry.senses.now scene.entry.at rows.old
+        state.old pc (EInstr.End task)
+        ≡ Acted.On (Part.Host scene.entry.hosted.now state.new) rows.new (suc pc)) }
+    ensures trapped { IfErr result
+        (IsTrap (λ reason. (pc : ℕ) →
+        acts scene.entry.hosted.now scene.entry.senses.now scene.entry.at rows.old state.old pc
+        (EInstr.End task) ≡ Acted.Stop reason)) }
 {
     if !state.end(task)? {
         return Ok(());
@@ -70,7 +78,8 @@ fn end(scene: Scene, state: &mut HostState, task: u16, rows: &mut Rows) -> Resul
 }
 
 fn actuator_kind(hosted: &Hosted, actuator: u16) -> Kind
-    ensures { result ≡ unwrap_or (option_map (λ p. p.kind) (slice_get hosted.now.actuators actuator)) Long }
+    ensures { result
+        ≡ unwrap_or (option_map (λ p. p.kind) (slice_get hosted.now.actuators actuator)) Long }
 {
     match hosted.actuators.get(usize::from(actuator)) {
         None => Kind::Long,
@@ -86,7 +95,10 @@ fn call(
     driver: u16,
     rows: &mut Rows,
 ) -> Result<(), NoMemory>
-    ensures { OnOk result ((pc : ℕ) → acts scene.entry.hosted.now scene.entry.senses.now scene.entry.at rows.old state.old pc (EInstr.Call driver) ≡ Acted.On (Part.Host scene.entry.hosted.now state.new) rows.new (suc pc)) }
+    ensures { OnOk result
+        ((pc : ℕ) → acts scene.entry.hosted.now scene.entry.senses.now scene.entry.at rows.old
+        state.old pc (EInstr.Call driver)
+        ≡ Acted.On (Part.Host scene.entry.hosted.now state.new) rows.new (suc pc)) }
 {
     let Some(driver) = scene.hosted.drivers.get(usize::from(driver)) else {
         return Ok(());
@@ -96,7 +108,7 @@ fn call(
     state.update(driver.actuator, kept);
     rows.push(Row::Act {
         at: Us(u64::from(scene.at)),
-        node: NodeId(0),
+        node: FIRST_NODE,
         module: scene.hosted.number,
         actuator: driver.actuator,
         value: kept,
@@ -112,7 +124,11 @@ fn first_cells(
     call: &CallEntry,
     table: &TaskTable,
 ) -> Result<Listed<i64>, NoMemory>
-    ensures { IfOk result (λ cells. cells ≡ arguments (value_at scene.entry.hosted.now state.now scene.entry.senses.now scene.entry.at) table.now.inputs call.now.args ++ outputs_of state.now call.now.task ++ replicate (length table.now.locals) (pos 0)) }
+    ensures { IfOk result
+        (λ cells. cells
+        ≡ arguments (value_at scene.entry.hosted.now state.now scene.entry.senses.now
+        scene.entry.at) table.now.inputs call.now.args ++ task_outputs state.now call.now.task
+        ++ replicate (length table.now.locals) (pos 0)) }
 {
     let mut cells = arguments(
         alloc,
@@ -130,8 +146,15 @@ fn first_cells(
 /// Releases a job: it starts, where the slot of its task is idle.
 fn release(alloc: Global, scene: Scene, state: &mut HostState, release: u16) -> Result<(), Stop>
     requires { HasReleased (2 ^ 64 - 2) state.old }
-    ensures ok { OnOk result ((rows : List Shown) (pc : ℕ) → acts scene.entry.hosted.now scene.entry.senses.now scene.entry.at rows state.old pc (EInstr.Release release) ≡ Acted.On (Part.Host scene.entry.hosted.now state.new) rows (suc pc)) }
-    ensures trapped { IfErr result (IsTrap (λ reason. (rows : List Shown) (pc : ℕ) → acts scene.entry.hosted.now scene.entry.senses.now scene.entry.at rows state.old pc (EInstr.Release release) ≡ Acted.Stop reason)) }
+    ensures ok { OnOk result
+        ((rows : List Shown) (pc : ℕ) →
+        acts scene.entry.hosted.now scene.entry.senses.now scene.entry.at rows state.old pc
+        (EInstr.Release release)
+        ≡ Acted.On (Part.Host scene.entry.hosted.now state.new) rows (suc pc)) }
+    ensures trapped { IfErr result
+        (IsTrap (λ reason. (rows : List Shown) (pc : ℕ) →
+        acts scene.entry.hosted.now scene.entry.senses.now scene.entry.at rows state.old pc
+        (EInstr.Release release) ≡ Acted.Stop reason)) }
 {
     let Some(release) = scene.hosted.releases.get(usize::from(release)) else {
         return Ok(());
@@ -158,7 +181,10 @@ fn release(alloc: Global, scene: Scene, state: &mut HostState, release: u16) -> 
 
 /// Enters a mode, and puts a row where the module was not in it.
 fn enter(scene: Scene, state: &mut HostState, mode: u16, rows: &mut Rows) -> Result<(), NoMemory>
-    ensures { OnOk result ((pc : ℕ) → acts scene.entry.hosted.now scene.entry.senses.now scene.entry.at rows.old state.old pc (EInstr.Mode mode) ≡ Acted.On (Part.Host scene.entry.hosted.now state.new) rows.new (suc pc)) }
+    ensures { OnOk result
+        ((pc : ℕ) → acts scene.entry.hosted.now scene.entry.senses.now scene.entry.at rows.old
+        state.old pc (EInstr.Mode mode)
+        ≡ Acted.On (Part.Host scene.entry.hosted.now state.new) rows.new (suc pc)) }
 {
     let already = state.is_in(mode);
     state.enter(mode, scene.at);
@@ -167,7 +193,7 @@ fn enter(scene: Scene, state: &mut HostState, mode: u16, rows: &mut Rows) -> Res
     }
     rows.push(Row::Mode {
         at: Us(u64::from(scene.at)),
-        node: NodeId(0),
+        node: FIRST_NODE,
         module: scene.hosted.number,
         mode: ModeId(mode),
     })?;
@@ -176,7 +202,10 @@ fn enter(scene: Scene, state: &mut HostState, mode: u16, rows: &mut Rows) -> Res
 
 /// Whether a guard holds; none where there is no such guard.
 fn holds(alloc: Global, scene: Scene, state: &HostState, guard: u16) -> Result<bool, NoMemory>
-    ensures { IfOk result (λ truth. truth ≡ is_true (value_at scene.entry.hosted.now state.now scene.entry.senses.now scene.entry.at (unwrap_or (slice_get scene.entry.hosted.now.guards guard) no_code))) }
+    ensures { IfOk result
+        (λ truth. truth
+        ≡ is_true (value_at scene.entry.hosted.now state.now scene.entry.senses.now scene.entry.at
+        (unwrap_or (slice_get scene.entry.hosted.now.guards guard) no_code))) }
 {
     let Some(guard) = scene.hosted.guards.get(usize::from(guard)) else {
         return Ok(false);
@@ -195,7 +224,10 @@ fn branch(
     otherwise: u32,
 ) -> Result<Next, NoMemory>
     requires { pc + 1 < 2 ^ 64 }
-    ensures { IfOk result (λ next. (rows : List Shown) → acts scene.entry.hosted.now scene.entry.senses.now scene.entry.at rows state.now pc (EInstr.If guard otherwise) ≡ went next scene.entry.hosted.now state.now rows) }
+    ensures { IfOk result
+        (λ next. (rows : List Shown) →
+        acts scene.entry.hosted.now scene.entry.senses.now scene.entry.at rows state.now pc
+        (EInstr.If guard otherwise) ≡ went next scene.entry.hosted.now state.now rows) }
 {
     if !holds(alloc, scene, state, guard)? {
         return Ok(Next::On(otherwise as usize));
@@ -214,33 +246,27 @@ pub fn act(
 ) -> Result<Next, Stop>
     requires room { pc + 1 < 2 ^ 64 }
     requires released { HasReleased (2 ^ 64 - 2) state.old }
-    ensures ok { IfOk result (λ next. acts scene.entry.hosted.now scene.entry.senses.now scene.entry.at rows.old state.old pc instr ≡ went next scene.entry.hosted.now state.new rows.new) }
-    ensures trapped { IfErr result (IsTrap (λ reason. acts scene.entry.hosted.now scene.entry.senses.now scene.entry.at rows.old state.old pc instr ≡ Acted.Stop reason)) }
+    ensures ok { IfOk result
+        (λ next. acts scene.entry.hosted.now scene.entry.senses.now scene.entry.at rows.old
+        state.old pc instr ≡ went next scene.entry.hosted.now state.new rows.new) }
+    ensures trapped { IfErr result
+        (IsTrap (λ reason. acts scene.entry.hosted.now scene.entry.senses.now scene.entry.at
+        rows.old state.old pc instr ≡ Acted.Stop reason)) }
 {
     match instr {
-        EInstr::Return => Ok(Next::Over),
-        EInstr::Jump(at) => Ok(Next::On(at as usize)),
-        EInstr::If(guard, otherwise) => { Ok(branch(alloc, scene, state, pc, guard, otherwise)?) }
-        EInstr::Call(driver) => {
-            call(alloc, scene, state, driver, rows)?;
-            Ok(Next::On(pc + 1))
+        EInstr::Return => return Ok(Next::Over),
+        EInstr::Jump(at) => return Ok(Next::On(at as usize)),
+        EInstr::If(guard, otherwise) => {
+            return Ok(branch(alloc, scene, state, pc, guard, otherwise)?);
         }
-        EInstr::Release(entry) => {
-            release(alloc, scene, state, entry)?;
-            Ok(Next::On(pc + 1))
-        }
-        EInstr::End(task) => {
-            end(scene, state, task, rows)?;
-            Ok(Next::On(pc + 1))
-        }
-        EInstr::Mode(mode) => {
-            enter(scene, state, mode, rows)?;
-            Ok(Next::On(pc + 1))
-        }
+        EInstr::Call(driver) => call(alloc, scene, state, driver, rows)?,
+        EInstr::Release(entry) => release(alloc, scene, state, entry)?,
+        EInstr::End(task) => end(scene, state, task, rows)?,
+        EInstr::Mode(mode) => enter(scene, state, mode, rows)?,
         EInstr::Future(ahead, block) => {
             state.await_block(u64::from(scene.at) + u64::from(ahead), block);
-            Ok(Next::On(pc + 1))
         }
-        EInstr::Take(_) => Ok(Next::On(pc + 1)),
+        EInstr::Take(_) => {}
     }
+    Ok(Next::On(pc + 1))
 }

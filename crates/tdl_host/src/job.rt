@@ -30,7 +30,9 @@ pub enum JobSlot {
 
 /// The kinds of a job's cells: those of its inputs, its outputs and its locals.
 fn kinds_of(alloc: Global, table: &TaskTable) -> Result<Vec<Kind>, NoMemory>
-    ensures { IfOk result (λ kinds. kinds.items ≡ table.now.inputs ++ map (λ o. o.kind) table.now.outputs ++ table.now.locals) }
+    ensures { IfOk result
+        (λ kinds. kinds.items ≡ table.now.inputs ++ map (λ o. o.kind) table.now.outputs
+        ++ table.now.locals) }
 {
     let mut kinds = Vec::new(alloc);
     kinds.extend_from_slice(table.inputs.as_slice())?;
@@ -50,7 +52,10 @@ fn cut(alloc: Global, cells: &[i64], from: usize, count: usize) -> Result<Vec<i6
 
 /// The outputs of a job whose body is run on its cells.
 fn finish(alloc: Global, table: &TaskTable, mut cells: Listed<i64>) -> Result<Listed<i64>, NoMemory>
-    ensures { IfOk result (λ outputs. outputs ≡ outputs_after (length table.now.inputs) (length table.now.outputs) table.now.body.instrs (cells_of table.now cells)) }
+    ensures { IfOk result
+        (λ outputs. outputs
+        ≡ outputs_after (length table.now.inputs) (length table.now.outputs) table.now.body.instrs
+        (cells_of table.now cells)) }
 {
     let kinds = kinds_of(alloc, table)?;
     run_body(alloc, &table.body, &kinds, &mut cells)?;
@@ -97,7 +102,8 @@ pub fn slot_after(
     table: &TaskTable,
     window: &ImageWindow,
 ) -> Result<JobSlot, NoMemory>
-    ensures { IfOk result (λ next. slot_now next ≡ slot_run (window.now ∷ []) table.now (slot_now slot)) }
+    ensures { IfOk result
+        (λ next. slot_now next ≡ slot_run (window.now ∷ []) table.now (slot_now slot)) }
 {
     match slot {
         JobSlot::Ready {

@@ -3,7 +3,7 @@ ghost use Rattle.tdl_scen.specs.declared.entries.Scenario.{Scenario};
 ghost use Rattle.tdl_verify.specs.States.{Part};
 ghost use Rattle.tdl_verify.specs.Texts.{times_in};
 ghost use Rattle.tdl_node.specs.Machines.{IsOneHost, IsOffBus, IsBegun};
-ghost use Rattle.tdl_host.specs.Hosts.{worst_of};
+ghost use Rattle.tdl_host.specs.Hosts.{worst_times};
 
 use crate::micro::run_micro;
 use crate::seen::Scene;
@@ -37,10 +37,15 @@ impl<'a> HostMachine<'a> {
     /// The machine before instant 0: no mode, and a trigger at 0 for the entry block.
     pub fn begin(alloc: Global, bundle: &'a Bundle) -> Result<HostMachine<'a>, NoMemory>
         requires { IsOneHost bundle.now }
-        ensures begun { IfOk result (λ machine. IsBegun bundle.now (⟦<HostMachine<'a> as Machine>⟧.declared machine) (⟦<HostMachine<'a> as Machine>⟧.parts machine)) }
+        ensures begun { IfOk result
+            (λ machine. IsBegun bundle.now (⟦<HostMachine<'a> as Machine>⟧.declared machine)
+            (⟦<HostMachine<'a> as Machine>⟧.parts machine)) }
         ensures ready { IfOk result (λ machine. ⟦<HostMachine<'a> as Machine>⟧.ready machine 0) }
-        ensures off_bus { IfOk result (λ machine. IsOffBus (⟦<HostMachine<'a> as Machine>⟧.parts machine)) }
-        ensures times { IfOk result (λ machine. (s : Scenario) → s.times ≡ [] → ⟦<HostMachine<'a> as Machine>⟧.times machine ≡ times_in bundle.now s) }
+        ensures off_bus { IfOk result
+            (λ machine. IsOffBus (⟦<HostMachine<'a> as Machine>⟧.parts machine)) }
+        ensures times { IfOk result
+            (λ machine. (s : Scenario) → s.times ≡ [] →
+            ⟦<HostMachine<'a> as Machine>⟧.times machine ≡ times_in bundle.now s) }
     {
         let Some(image) = bundle.images.get(0) else {
             unreachable!();
@@ -59,13 +64,13 @@ impl<'a> HostMachine<'a> {
 impl Machine for HostMachine<'_> {
     ghost use Rattle.std.specs.Prelude.{◌∷◌, [], ◌*◌, ◌^◌};
     ghost use Rattle.tdl_verify.specs.States.{Part};
-    ghost use Rattle.tdl_host.specs.Hosts.{HasReleased, worst_of};
+    ghost use Rattle.tdl_host.specs.Hosts.{HasReleased, worst_times};
 
     ghost declared = { λ m. m.declared };
 
     ghost parts = { λ m. Part.Host m.host m.now ∷ [] };
 
-    ghost times = { λ m. worst_of m.host };
+    ghost times = { λ m. worst_times m.host };
 
     ghost ready = { λ m x. HasReleased (x * 2 ^ 32) m.now };
 

@@ -2,7 +2,8 @@ ghost use Rattle.std.specs.Prelude.{◌≡◌, ℕ, true, false, length, filter,
 ghost use Rattle.tdl_trace.specs.declared.why.Why.TheVariants as why;
 ghost use Rattle.tdl_verify.specs.Micros.{is_live, tasks_run};
 ghost use Rattle.tdl_node.specs.Machines.{IsTrapOf};
-ghost use Rattle.tdl_host.specs.Hosts.{HasReleased, as_list};
+ghost use Rattle.std.specs.Option.{option_to_list};
+ghost use Rattle.tdl_host.specs.Hosts.{HasReleased};
 
 use crate::state::HostState;
 use std::alloc::Global;
@@ -12,8 +13,11 @@ use tdl_trace::Why;
 
 /// The live window, if there is one. Two are a clash.
 fn live_window(hosted: &Hosted, state: &HostState, at: u32) -> Result<Option<ImageWindow>, Stop>
-    ensures ok { IfOk result (λ found. filter (is_live at state.now) hosted.now.windows ≡ as_list found) }
-    ensures clash { IfErr result (IsTrapOf why.Clash (nat_lt 1 (length (filter (is_live at state.now) hosted.now.windows)) ≡ true)) }
+    ensures ok { IfOk result
+        (λ found. filter (is_live at state.now) hosted.now.windows ≡ option_to_list found) }
+    ensures clash { IfErr result
+        (IsTrapOf why.Clash
+        (nat_lt 1 (length (filter (is_live at state.now) hosted.now.windows)) ≡ true)) }
 {
     let mut found = None;
     for window in hosted.windows.as_slice() {
@@ -30,10 +34,18 @@ fn live_window(hosted: &Hosted, state: &HostState, at: u32) -> Result<Option<Ima
 
 /// A microsecond of the module: the job of the live window works.
 pub fn run_micro(alloc: Global, hosted: &Hosted, state: &mut HostState, at: u32) -> Result<(), Stop>
-    ensures apart { OnOk result (nat_lt 1 (length (filter (is_live at state.old) hosted.now.windows)) ≡ false) }
-    ensures ok { OnOk result (state.new ≡ record state.old { tasks = tasks_run (filter (is_live at state.old) hosted.now.windows) hosted.now.tasks state.old.tasks }) }
-    ensures released { OnOk result ((bound : ℕ) → HasReleased bound state.old → HasReleased bound state.new) }
-    ensures clash { IfErr result (IsTrapOf why.Clash (nat_lt 1 (length (filter (is_live at state.old) hosted.now.windows)) ≡ true)) }
+    ensures apart { OnOk result
+        (nat_lt 1 (length (filter (is_live at state.old) hosted.now.windows)) ≡ false) }
+    ensures ok { OnOk result
+        (state.new ≡ record state.old {
+          tasks = tasks_run (filter (is_live at state.old) hosted.now.windows) hosted.now.tasks
+              state.old.tasks;
+        }) }
+    ensures released { OnOk result
+        ((bound : ℕ) → HasReleased bound state.old → HasReleased bound state.new) }
+    ensures clash { IfErr result
+        (IsTrapOf why.Clash
+        (nat_lt 1 (length (filter (is_live at state.old) hosted.now.windows)) ≡ true)) }
 {
     let Some(window) = live_window(hosted, state, at)? else {
         return Ok(());

@@ -1,7 +1,7 @@
 ghost use Rattle.std.specs.Prelude.{◌≡◌, IfOk, slice_index_or, pos};
 ghost use Rattle.tdl_base.specs.declared.kinds.Kind.TheVariants.{Long};
 ghost use Rattle.tdl_verify.specs.Turns.{arguments};
-ghost use Rattle.tdl_host.specs.Hosts.{look_at, value_at};
+ghost use Rattle.tdl_host.specs.Hosts.{outer_at, value_at};
 
 use crate::state::HostState;
 use std::alloc::Global;
@@ -27,7 +27,7 @@ struct Seen<'a> {
 }
 
 impl View for Seen<'_> {
-    ghost look = { λ v. look_at v.scene.hosted.now v.state.now v.scene.senses.now v.scene.at };
+    ghost outer = { λ v. outer_at v.scene.hosted.now v.state.now v.scene.senses.now v.scene.at };
 
     fn sensor(&self, number: u16) -> i64 {
         sensed_value(
@@ -48,7 +48,9 @@ impl View for Seen<'_> {
 
 /// The number of a code of the module.
 pub fn value(alloc: Global, scene: Scene, state: &HostState, code: &Code) -> Result<i64, NoMemory>
-    ensures { IfOk result (λ number. number ≡ value_at scene.entry.hosted.now state.now scene.entry.senses.now scene.entry.at code.now) }
+    ensures { IfOk result
+        (λ number. number
+        ≡ value_at scene.entry.hosted.now state.now scene.entry.senses.now scene.entry.at code.now) }
 {
     let seen = Seen { scene, state };
     number(alloc, code, &seen)
@@ -74,7 +76,10 @@ pub fn arguments(
     kinds: &[Kind],
     codes: &[Code],
 ) -> Result<Vec<i64>, NoMemory>
-    ensures { IfOk result (λ numbers. numbers.items ≡ arguments (value_at scene.entry.hosted.now state.now scene.entry.senses.now scene.entry.at) kinds.now codes.now) }
+    ensures { IfOk result
+        (λ numbers. numbers.items
+        ≡ arguments (value_at scene.entry.hosted.now state.now scene.entry.senses.now
+        scene.entry.at) kinds.now codes.now) }
 {
     let mut numbers = Vec::new(alloc);
     for (i, code) in codes.iter().enumerate() {

@@ -5,7 +5,7 @@ ghost use Rattle.tdl_verify.specs.States.{Slot, Part, host_first};
 ghost use Rattle.tdl_verify.specs.Micros.{is_live, tasks_run};
 ghost use Rattle.tdl_verify.specs.Turns.{is_mode, phase_of};
 ghost use Rattle.tdl_node.specs.Machines.{IsTrapOf};
-ghost use Rattle.tdl_host.specs.Hosts.{HasReleased, due_block, taken, outputs_of, slot_of, is_idle, with_job, IsCommittedAt, IsLate};
+ghost use Rattle.tdl_host.specs.Hosts.{HasReleased, due_block, trigger_taken, task_outputs, slot_of, is_idle, with_job, IsCommittedAt, IsLate};
 
 use crate::task::{TaskState, first_tasks, initials, work_all};
 use std::alloc::Global;
@@ -71,7 +71,7 @@ impl HostState {
 
     /// The outputs of a task, none where there is no such task.
     pub fn outputs(&self, task: u16) -> &[i64]
-        ensures { result.now ≡ outputs_of self.now task }
+        ensures { result.now ≡ task_outputs self.now task }
     {
         match self.tasks.get(usize::from(task)) {
             None => &[],
@@ -83,7 +83,8 @@ impl HostState {
     pub fn end(&mut self, task: u16) -> Result<bool, Stop>
         ensures kept { IfOk result (λ done. done ≡ false → self.new ≡ self.old) }
         ensures idle { IfOk result (λ done. done ≡ false → slot_of self.old task ≡ Slot.Idle) }
-        ensures committed { IfOk result (λ done. done ≡ true → IsCommittedAt task self.old self.new) }
+        ensures committed { IfOk result
+            (λ done. done ≡ true → IsCommittedAt task self.old self.new) }
         ensures late { IfErr result (IsTrapOf why.Late (IsLate (slot_of self.old task))) }
     {
         let place = usize::from(task);
@@ -115,7 +116,9 @@ impl HostState {
     ) -> Result<(), Stop>
         requires { HasReleased (2 ^ 64 - 2) self.old }
         ensures idle { OnOk result (slot_of self.old task ≡ Slot.Idle) }
-        ensures started { OnOk result (self.new ≡ record self.old { tasks = changed_at task (with_job mode invocation left cells) self.old.tasks }) }
+        ensures started { OnOk result
+            (self.new ≡ record self.old
+            { tasks = changed_at task (with_job mode invocation left cells) self.old.tasks }) }
         ensures busy { IfErr result (IsTrapOf why.Busy (is_idle (slot_of self.old task) ≡ false)) }
     {
         let place = usize::from(task);
@@ -156,7 +159,9 @@ impl HostState {
         hosted: &Hosted,
         window: &ImageWindow,
     ) -> Result<(), NoMemory>
-        ensures { OnOk result (self.new ≡ record self.old { tasks = tasks_run (window.now ∷ []) hosted.now.tasks self.old.tasks }) }
+        ensures { OnOk result
+            (self.new ≡ record self.old
+            { tasks = tasks_run (window.now ∷ []) hosted.now.tasks self.old.tasks }) }
     {
         work_all(alloc, hosted.tasks.as_slice(), &mut self.tasks, window)?;
         Ok(())
@@ -172,7 +177,8 @@ impl HostState {
 
     /// Sets the trigger.
     pub fn await_block(&mut self, at: u64, block: u32)
-        ensures { self.new ≡ record self.old { trigger = Some (record { at = at; block = block }) } }
+        ensures { self.new
+            ≡ record self.old { trigger = Some (record { at = at; block = block }) } }
     {
         self.trigger = Some(Alarm { at, block });
     }
@@ -180,7 +186,7 @@ impl HostState {
     /// Takes the trigger out where it is due at an instant, and says its block.
     pub fn take_due(&mut self, hosted: &Hosted, at: u32) -> Option<u32>
         ensures is { result ≡ due_block at hosted.now self.old.trigger }
-        ensures taken { self.new ≡ taken result self.old }
+        ensures trigger_taken { self.new ≡ trigger_taken result self.old }
     {
         let Some(alarm) = self.trigger else {
             return None;
@@ -194,7 +200,8 @@ impl HostState {
 
     /// Sets an actuator. Nothing changes where there is no such actuator.
     pub fn update(&mut self, actuator: u16, value: i64)
-        ensures { self.new ≡ record self.old { actuators = changed_at actuator (λ _. value) self.old.actuators } }
+        ensures { self.new
+            ≡ record self.old { actuators = changed_at actuator (λ _. value) self.old.actuators } }
     {
         let place = usize::from(actuator);
         if place < self.actuators.len() {

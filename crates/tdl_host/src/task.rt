@@ -1,6 +1,6 @@
 ghost use Rattle.std.specs.Prelude.{◌≡◌, ◌<◌, ◌+◌, ◌^◌, true, false, IfOk, OnOk, IfErr, map, ◌∷◌, []};
 ghost use Rattle.tdl_trace.specs.declared.why.Why.TheVariants as why;
-ghost use Rattle.tdl_verify.specs.States.{Slot, task_first, initials};
+ghost use Rattle.tdl_verify.specs.States.{Slot, task_first, initial_values};
 ghost use Rattle.tdl_verify.specs.Micros.{slot_run, tasks_run};
 ghost use Rattle.tdl_node.specs.Machines.{IsTrapOf};
 ghost use Rattle.tdl_host.specs.Hosts.{is_idle, with_job, IsCommitted, IsLate};
@@ -33,7 +33,7 @@ impl Model for TaskState {
 
 /// The initial numbers of ports.
 pub fn initials(alloc: Global, ports: &[Initial]) -> Result<Vec<i64>, NoMemory>
-    ensures { IfOk result (λ numbers. numbers.items ≡ initials ports.now) }
+    ensures { IfOk result (λ numbers. numbers.items ≡ initial_values ports.now) }
 {
     let numbers = ports.iter().map(|port| port.initial).collect(alloc)?;
     Ok(numbers)
@@ -83,7 +83,9 @@ impl TaskState {
         table: &TaskTable,
         window: &ImageWindow,
     ) -> Result<(), NoMemory>
-        ensures { OnOk result (self.new ≡ record self.old { slot = slot_run (window.now ∷ []) table.now self.old.slot }) }
+        ensures { OnOk result
+            (self.new ≡ record self.old
+            { slot = slot_run (window.now ∷ []) table.now self.old.slot }) }
     {
         let slot = mem::replace(&mut self.slot, JobSlot::Idle);
         self.slot = slot_after(alloc, slot, table, window)?;

@@ -1,4 +1,5 @@
 ghost use Rattle.std.specs.Prelude.{◌≡◌, ◌≤◌, ◌*◌, ◌^◌, suc, [], ◌∷◌, OnOk, IfErr};
+ghost use Rattle.tdl_base.specs.declared.limits.TheConstants.{HORIZON_US};
 ghost use Rattle.tdl_verify.specs.States.{Part};
 ghost use Rattle.tdl_verify.specs.Turns.{Turned, Spot};
 ghost use Rattle.tdl_node.specs.Machines.{IsTrap};
@@ -20,11 +21,16 @@ pub fn run_turn(
     rows: &mut Rows,
 ) -> Result<(), Stop>
     requires empty { rows.old ≡ [] }
-    requires instant { scene.at ≤ 1000000 }
+    requires instant { scene.at ≤ HORIZON_US }
     requires released { HasReleased (scene.at * 2 ^ 32) state.old }
-    ensures ok { OnOk result (host_turn declared scene.entry.hosted.now scene.entry.senses.now scene.entry.at Spot.Between state.old [] ≡ Turned.Finished (Part.Host scene.entry.hosted.now state.new ∷ []) rows.new) }
+    ensures ok { OnOk result
+        (host_turn declared scene.entry.hosted.now scene.entry.senses.now scene.entry.at
+        Spot.Between state.old []
+        ≡ Turned.Finished (Part.Host scene.entry.hosted.now state.new ∷ []) rows.new) }
     ensures released { OnOk result (HasReleased (suc scene.entry.at * 2 ^ 32) state.new) }
-    ensures trapped { IfErr result (IsTrap (λ reason. host_turn declared scene.entry.hosted.now scene.entry.senses.now scene.entry.at Spot.Between state.old [] ≡ Turned.Trapped reason)) }
+    ensures trapped { IfErr result
+        (IsTrap (λ reason. host_turn declared scene.entry.hosted.now scene.entry.senses.now
+        scene.entry.at Spot.Between state.old [] ≡ Turned.Trapped reason)) }
 {
     let mut standing = Standing::Between;
     for _done in 0..declared {

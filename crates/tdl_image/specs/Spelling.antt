@@ -93,7 +93,8 @@ driver_bytes driver = short driver.actuator ++ stack_code_bytes driver.value
 -- a window: resource, mode, invocation, offset, length
 abbrev pub window_bytes : ImageWindow → Bytes
 window_bytes window =
-    byte (resource_number window.bus) ++ short window.mode ++ short window.invocation ++ word window.offset ++ word window.length
+    byte (resource_number window.bus) ++ short window.mode ++ short window.invocation ++ word window.offset
+    ++ word window.length
 
 -- a block: phase, instructions
 abbrev pub block_bytes : Block → Bytes
@@ -138,7 +139,8 @@ stub_bytes stub =
 -- an image: node, declared count, hosted modules, stubs
 abbrev pub image_bytes : Image → Bytes
 image_bytes image =
-    string image.node ++ word image.declared ++ short_list hosted_bytes image.hosted ++ short_list stub_bytes image.stubs
+    string image.node ++ word image.declared ++ short_list hosted_bytes image.hosted
+    ++ short_list stub_bytes image.stubs
 
 -- a bundle: four letters, the version 1, images
 abbrev pub bundle_bytes : Bundle → Bytes

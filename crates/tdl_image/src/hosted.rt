@@ -34,7 +34,7 @@ pub struct TaskTable {
     pub inputs: Listed<Kind>,
     pub outputs: Listed<Initial>,
     pub locals: Listed<Kind>,
-    /// What a job does to its cells: the inputs, then the outputs, then the locals.
+    /// The code that a job runs on its cells: the inputs, then the outputs, then the locals.
     pub body: Code,
 }
 

@@ -8,6 +8,7 @@ mod put_common;
 mod put_hosted;
 mod put_image;
 mod put_stub;
+mod sample;
 mod spelled;
 mod stub;
 #[cfg(test)]
@@ -16,5 +17,6 @@ mod writer;
 
 pub use bundle::{Bundle, Image, Initial, KindName};
 pub use hosted::{CallEntry, Driver, Hosted, ImageWindow, ReleaseEntry, TaskTable};
+pub use sample::COUNTING_BYTES;
 pub use stub::{Receive, Stub, StubTask};
 pub use writer::write_bundle;

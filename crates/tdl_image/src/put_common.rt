@@ -1,12 +1,13 @@
 //! The spelling of what hosted modules and stubs share.
 ghost use Rattle.std.specs.Prelude.{◌≡◌, ⊤};
-ghost use Rattle.tdl_ecode.specs.Spelling.{einstr_bytes};
-ghost use Rattle.tdl_stack.specs.Spelling.{instr_bytes};
+ghost use Rattle.tdl_ecode.specs.Spelling as ecode;
+ghost use Rattle.tdl_stack.specs.Spelling as stack;
 ghost use Rattle.tdl_image.specs.Spelling.{kind_bytes, kind_number, kind_name_bytes, initial_bytes, stack_code_bytes, block_bytes};
 ghost use Rattle.tdl_image.specs.Spellable.{IsSpellableBlock, IsSpellableCode, IsSpellableInitial, IsSpellableSensor};
 
-use crate::spelled::{Spelled, put_byte, put_i64, put_long_list};
+use crate::spelled::{Spelled, put_long_list};
 use crate::{Initial, KindName};
+use tdl_base::bytes::{put_byte, put_long};
 use tdl_base::{Kind, NoMemory};
 use tdl_ecode::{Block, EInstr, put_instr};
 use tdl_stack::{Code, Instr, put_code_instr};
@@ -52,14 +53,14 @@ impl Spelled for Initial {
     fn put(&self, into: &mut Vec<u8>) -> Result<(), NoMemory> {
         self.kind.put(into)?;
         self.name.put(into)?;
-        put_i64(into, self.initial)
+        put_long(into, self.initial)
     }
 }
 
 impl Spelled for Instr {
-    ghost spelling = { instr_bytes };
+    ghost spelling = { stack.instr_bytes };
 
-    ghost spellable = { λ _. ⊤ };
+    ghost spellable = { stack.IsInRange };
 
     fn put(&self, into: &mut Vec<u8>) -> Result<(), NoMemory> {
         put_code_instr(self, into)
@@ -77,9 +78,9 @@ impl Spelled for Code {
 }
 
 impl Spelled for EInstr {
-    ghost spelling = { einstr_bytes };
+    ghost spelling = { ecode.einstr_bytes };
 
-    ghost spellable = { λ _. ⊤ };
+    ghost spellable = { ecode.IsInRange };
 
     fn put(&self, into: &mut Vec<u8>) -> Result<(), NoMemory> {
         put_instr(self, into)

@@ -1,11 +1,12 @@
 //! The spelling of a hosted module and of its tables.
-ghost use Rattle.std.specs.Prelude.{◌≡◌, ◌++◌, ⊤, OnOk};
+ghost use Rattle.std.specs.Prelude.{◌≡◌, ◌++◌, OnOk};
 ghost use Rattle.tdl_image.specs.Spelling.{task_bytes, call_bytes, release_bytes, driver_bytes, window_bytes, resource_number, declaration_bytes, table_bytes, timing_bytes, hosted_bytes};
-ghost use Rattle.tdl_image.specs.Spellable.{IsSpellableTask, IsSpellableCall, IsSpellableDriver, IsSpellableHosted};
+ghost use Rattle.tdl_image.specs.Spellable.{IsSpellableTask, IsSpellableCall, IsSpellableRelease, IsSpellableDriver, IsSpellableWindow, IsSpellableHosted};
 
-use crate::spelled::{Spelled, put_byte, put_long_list, put_short_list, put_u16, put_u32};
+use crate::spelled::{Spelled, put_long_list, put_short_list};
 use crate::{CallEntry, Driver, Hosted, ImageWindow, ReleaseEntry, TaskTable};
 use tdl_base::NoMemory;
+use tdl_base::bytes::{put_byte, put_short, put_word};
 
 impl Spelled for TaskTable {
     ghost spelling = { task_bytes };
@@ -14,7 +15,7 @@ impl Spelled for TaskTable {
 
     fn put(&self, into: &mut Vec<u8>) -> Result<(), NoMemory> {
         self.name.put(into)?;
-        put_u32(into, self.worst)?;
+        put_word(into, self.worst)?;
         put_short_list(into, &self.inputs)?;
         put_short_list(into, &self.outputs)?;
         put_short_list(into, &self.locals)?;
@@ -28,7 +29,7 @@ impl Spelled for CallEntry {
     ghost spellable = { IsSpellableCall };
 
     fn put(&self, into: &mut Vec<u8>) -> Result<(), NoMemory> {
-        put_u16(into, self.task)?;
+        put_short(into, self.task)?;
         put_short_list(into, &self.args)
     }
 }
@@ -36,12 +37,12 @@ impl Spelled for CallEntry {
 impl Spelled for ReleaseEntry {
     ghost spelling = { release_bytes };
 
-    ghost spellable = { λ _. ⊤ };
+    ghost spellable = { IsSpellableRelease };
 
     fn put(&self, into: &mut Vec<u8>) -> Result<(), NoMemory> {
-        put_u16(into, self.mode)?;
-        put_u16(into, self.invocation)?;
-        put_u16(into, self.call)
+        put_short(into, self.mode)?;
+        put_short(into, self.invocation)?;
+        put_short(into, self.call)
     }
 }
 
@@ -51,7 +52,7 @@ impl Spelled for Driver {
     ghost spellable = { IsSpellableDriver };
 
     fn put(&self, into: &mut Vec<u8>) -> Result<(), NoMemory> {
-        put_u16(into, self.actuator)?;
+        put_short(into, self.actuator)?;
         self.value.put(into)
     }
 }
@@ -59,14 +60,14 @@ impl Spelled for Driver {
 impl Spelled for ImageWindow {
     ghost spelling = { window_bytes };
 
-    ghost spellable = { λ _. ⊤ };
+    ghost spellable = { IsSpellableWindow };
 
     fn put(&self, into: &mut Vec<u8>) -> Result<(), NoMemory> {
         put_byte(into, number_of(self.bus))?;
-        put_u16(into, self.mode)?;
-        put_u16(into, self.invocation)?;
-        put_u32(into, self.offset)?;
-        put_u32(into, self.length)
+        put_short(into, self.mode)?;
+        put_short(into, self.invocation)?;
+        put_word(into, self.offset)?;
+        put_word(into, self.length)
     }
 }
 
@@ -81,7 +82,7 @@ fn put_declarations(into: &mut Vec<u8>, host: &Hosted) -> Result<(), NoMemory>
     requires { IsSpellableHosted host.now }
     ensures { OnOk result (into.new.items ≡ into.old.items ++ declaration_bytes host.now) }
 {
-    put_u16(into, host.number.0)?;
+    put_short(into, host.number.0)?;
     host.name.put(into)?;
     put_short_list(into, &host.sensors)?;
     put_short_list(into, &host.actuators)?;
@@ -105,7 +106,7 @@ fn put_timing(into: &mut Vec<u8>, host: &Hosted) -> Result<(), NoMemory>
 {
     put_long_list(into, &host.windows)?;
     put_long_list(into, &host.blocks)?;
-    put_u32(into, host.entry)
+    put_word(into, host.entry)
 }
 
 impl Spelled for Hosted {

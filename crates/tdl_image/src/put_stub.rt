@@ -1,11 +1,11 @@
 //! The spelling of a stub.
-ghost use Rattle.std.specs.Prelude.{⊤};
 ghost use Rattle.tdl_image.specs.Spelling.{stub_bytes, stub_task_bytes, receive_bytes};
-ghost use Rattle.tdl_image.specs.Spellable.{IsSpellableStub, IsSpellableStubTask};
+ghost use Rattle.tdl_image.specs.Spellable.{IsSpellableReceive, IsSpellableStub, IsSpellableStubTask};
 
-use crate::spelled::{Spelled, put_long_list, put_short_list, put_u16, put_u32};
+use crate::spelled::{Spelled, put_long_list, put_short_list};
 use crate::{Receive, Stub, StubTask};
 use tdl_base::NoMemory;
+use tdl_base::bytes::{put_short, put_word};
 
 impl Spelled for StubTask {
     ghost spelling = { stub_task_bytes };
@@ -13,7 +13,7 @@ impl Spelled for StubTask {
     ghost spellable = { IsSpellableStubTask };
 
     fn put(&self, into: &mut Vec<u8>) -> Result<(), NoMemory> {
-        put_u16(into, self.number)?;
+        put_short(into, self.number)?;
         self.name.put(into)?;
         put_short_list(into, &self.outputs)
     }
@@ -22,14 +22,14 @@ impl Spelled for StubTask {
 impl Spelled for Receive {
     ghost spelling = { receive_bytes };
 
-    ghost spellable = { λ _. ⊤ };
+    ghost spellable = { IsSpellableReceive };
 
     fn put(&self, into: &mut Vec<u8>) -> Result<(), NoMemory> {
-        put_u16(into, self.mode)?;
-        put_u16(into, self.invocation)?;
-        put_u16(into, self.task)?;
-        put_u32(into, self.delta)?;
-        put_u32(into, self.block)
+        put_short(into, self.mode)?;
+        put_short(into, self.invocation)?;
+        put_short(into, self.task)?;
+        put_word(into, self.delta)?;
+        put_word(into, self.block)
     }
 }
 
@@ -39,7 +39,7 @@ impl Spelled for Stub {
     ghost spellable = { IsSpellableStub };
 
     fn put(&self, into: &mut Vec<u8>) -> Result<(), NoMemory> {
-        put_u16(into, self.number.0)?;
+        put_short(into, self.number.0)?;
         self.name.put(into)?;
         put_short_list(into, &self.tasks)?;
         put_short_list(into, &self.entries)?;

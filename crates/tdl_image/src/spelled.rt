@@ -1,10 +1,10 @@
 ghost use Rattle.std.specs.List.{flat_map};
 ghost use Rattle.std.specs.Prelude.{◌≡◌, ◌++◌, OnOk, All};
-ghost use Rattle.tdl_base.specs.Bytes.{long, short, word};
-ghost use Rattle.tdl_image.specs.Spelling.{byte, string, short_list, long_list};
-ghost use Rattle.tdl_image.specs.Spellable.{FitsShort, FitsLong};
+ghost use Rattle.tdl_image.specs.Spelling.{string, short_list, long_list};
+ghost use Rattle.tdl_image.specs.Spellable.{IsShortList, IsLongList};
 ghost use Rattle.tdl_image.specs.Identifiers.{IsIdentifier};
 
+use tdl_base::bytes::{put_byte, put_bytes, put_short, put_word};
 use tdl_base::{Listed, NoMemory, Text};
 
 /// A part of a bundle. It has one spelling, where it can be spelled.
@@ -19,41 +19,6 @@ pub(crate) trait Spelled {
     fn put(&self, into: &mut Vec<u8>) -> Result<(), NoMemory>
         requires { spellable self.now }
         ensures { OnOk result (into.new.items ≡ into.old.items ++ spelling self.now) };
-}
-
-pub(crate) fn put_bytes(into: &mut Vec<u8>, bytes: &[u8]) -> Result<(), NoMemory>
-    ensures { OnOk result (into.new.items ≡ into.old.items ++ bytes.now) }
-{
-    into.extend_from_slice(bytes)?;
-    Ok(())
-}
-
-pub(crate) fn put_byte(into: &mut Vec<u8>, number: u8) -> Result<(), NoMemory>
-    ensures { OnOk result (into.new.items ≡ into.old.items ++ byte number) }
-{
-    into.push(number)?;
-    Ok(())
-}
-
-pub(crate) fn put_u16(into: &mut Vec<u8>, number: u16) -> Result<(), NoMemory>
-    ensures { OnOk result (into.new.items ≡ into.old.items ++ short number) }
-{
-    put_bytes(into, &number.to_be_bytes())?;
-    Ok(())
-}
-
-pub(crate) fn put_u32(into: &mut Vec<u8>, number: u32) -> Result<(), NoMemory>
-    ensures { OnOk result (into.new.items ≡ into.old.items ++ word number) }
-{
-    put_bytes(into, &number.to_be_bytes())?;
-    Ok(())
-}
-
-pub(crate) fn put_i64(into: &mut Vec<u8>, number: i64) -> Result<(), NoMemory>
-    ensures { OnOk result (into.new.items ≡ into.old.items ++ long number) }
-{
-    put_bytes(into, &number.to_be_bytes())?;
-    Ok(())
 }
 
 /// Appends the items, one after the other.
@@ -72,11 +37,11 @@ pub(crate) fn put_short_list<T: Spelled>(
     into: &mut Vec<u8>,
     items: &Listed<T>,
 ) -> Result<(), NoMemory>
-    requires count { FitsShort items.now }
+    requires count { IsShortList items.now }
     requires each { All T.spellable items.now }
     ensures { OnOk result (into.new.items ≡ into.old.items ++ short_list T.spelling items.now) }
 {
-    put_u16(into, items.len() as u16)?;
+    put_short(into, items.len() as u16)?;
     put_items(into, items.as_slice())?;
     Ok(())
 }
@@ -86,11 +51,11 @@ pub(crate) fn put_long_list<T: Spelled>(
     into: &mut Vec<u8>,
     items: &Listed<T>,
 ) -> Result<(), NoMemory>
-    requires count { FitsLong items.now }
+    requires count { IsLongList items.now }
     requires each { All T.spellable items.now }
     ensures { OnOk result (into.new.items ≡ into.old.items ++ long_list T.spelling items.now) }
 {
-    put_u32(into, items.len() as u32)?;
+    put_word(into, items.len() as u32)?;
     put_items(into, items.as_slice())?;
     Ok(())
 }

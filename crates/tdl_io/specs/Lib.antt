@@ -3,3 +3,4 @@ pub mod MemSink
 pub mod Outside
 pub mod QuietFiles
 pub mod Reading
+pub mod Told

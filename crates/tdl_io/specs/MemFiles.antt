@@ -15,7 +15,7 @@ Entry = List ℕ × List ℕ
 abbrev pub entries_of : List (String Global × Vec ℕ Global) → List Entry
 entries_of = map (λ given. (string_bytes given.0, given.1.items))
 
--- of several entries with one name the first is held
+-- where entries share a name, the earliest counts
 abbrev pub held_in : List Entry → Held
 held_in [] name = None
 held_in (entry ∷ entries) name = if bytes_eq entry.0 name then Some entry.1 else held_in entries name
@@ -51,7 +51,8 @@ load_fails s name = is_told_to_fail s || is_none (held_in s.entries name)
 
 -- the files after one more call, their entries as before
 abbrev pub after_call : FilesState → CallKind → List ℕ → Bool → FilesState
-after_call s kind name failed = record s { calls = s.calls ++ record { kind = kind; name = name; failed = failed } ∷ [] }
+after_call s kind name failed =
+    record s { calls = s.calls ++ record { kind = kind; name = name; failed = failed } ∷ [] }
 
 -- the files after a load
 abbrev pub after_load : FilesState → List ℕ → FilesState

@@ -3,7 +3,8 @@ use Rattle.std.specs.Prelude.{ℕ, ◌+◌, ◌==◌, ◌||◌, List, ◌++◌, 
 use Rattle.std.specs.List.{list_any}
 use Rattle.tdl_io.specs.Outside.{raised}
 
--- the bytes that are held, the greatest number of them, the numbers of the puts that are told to fail, and how many were made and failed
+-- the bytes that are held, the greatest number of them, the numbers of the puts that are told to fail, and how many
+-- were made and failed
 pub record SinkState : Type 0 where
   pub bytes : List ℕ
   pub room : ℕ
@@ -11,7 +12,7 @@ pub record SinkState : Type 0 where
   pub puts : ℕ
   pub faults : ℕ
 
--- the next put fails: it is told to, or its bytes do not fit the room that is left
+-- the next put fails: by its number, or for want of room
 abbrev pub put_fails : SinkState → List ℕ → Bool
 put_fails s bytes = list_any (λ k. k == raised s.puts) s.fail || nat_lt s.room (length s.bytes + length bytes)
 

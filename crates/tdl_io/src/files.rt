@@ -1,8 +1,8 @@
 ghost use Rattle.std.specs.Prelude.{◌≡◌, [], ℕ, ◌+◌, ◌<◌, ◌≤◌, length, OnOk, OnErr, IsErrOf};
-ghost use Rattle.std.specs.declared.option.Option.{Option};
 ghost use Rattle.tdl_io.specs.declared.files.FileAnswer.TheVariants.{NoMemory};
 ghost use Rattle.tdl_io.specs.declared.files.SaveAnswer.TheVariants as save_answer;
-ghost use Rattle.tdl_io.specs.Outside.{Held, Counts, Rose, Reads, ReadsPart, IsLonger, Saves, KeepsOthers, NoCountFalls, NoCountChanges, ChangesOnly, HasNamedCause};
+ghost use Rattle.tdl_io.specs.Outside.{Rose, Reads, ReadsPart, IsLonger, Saves, KeepsOthers, NoCountFalls, NoCountChanges, ChangesOnly, HasNamedCause};
+ghost use Rattle.tdl_io.specs.Told.{FilesTold};
 
 use std::alloc::AllocError;
 use thiserror::Error;
@@ -66,60 +66,59 @@ impl From<tdl_base::NoMemory> for SaveAnswer {
 
 /// Files, by their names.
 pub trait Files {
-    /// What they hold, or None where they do not tell it.
-    ghost holds: { Self → Option Held };
+    /// What they hold, a count of their faults, and the counts by name. No count falls; each may
+    /// stand still at the greatest u64.
+    ghost told: { Self → FilesTold };
 
-    /// A count of their faults, which never falls and may stand still at the greatest u64.
-    ghost faults: { Self → ℕ };
-
-    /// For each name a count of its failed loads, or None where they do not tell it.
-    ghost failed_loads: { Self → Option Counts };
-
-    /// For each name a count of its failed saves, or None where they do not tell it.
-    ghost failed_saves: { Self → Option Counts };
-
-    /// Reads a whole file into `into`, which is empty at first; of an absent name nothing, where that
-    /// is no fault. `limit` is the greatest length of the file, in bytes. Of a longer one at most one
-    /// byte past the limit is read.
+    /// Reads a whole file into `into`, which is empty at first; of an absent name nothing, where
+    /// that is no fault. `limit` is the greatest length of the file, in bytes. Of a longer one at
+    /// most one byte past the limit is read.
     fn load(&mut self, name: &str, limit: usize, into: &mut Vec<u8>) -> Result<(), FileAnswer>
         requires { into.old.items ≡ [] }
 
-        ensures held { holds self.new ≡ holds self.old }
-        ensures whole { OnOk result (Reads (holds self.old) name.now into.new.items) }
+        ensures held { (told self.new).holds ≡ (told self.old).holds }
+        ensures whole { OnOk result (Reads (told self.old).holds name.now into.new.items) }
         ensures within { OnOk result (length into.new.items ≤ limit) }
         ensures bounded { length into.new.items ≤ limit + 1 }
 
         // After a refusal the file begins with what was read.
-        ensures part { OnErr result (ReadsPart (holds self.old) name.now into.new.items) }
+        ensures part { OnErr result (ReadsPart (told self.old).holds name.now into.new.items) }
         ensures too_long { IsErrOf result FileAnswer.TooLong → limit < length into.new.items }
         ensures longer { IsErrOf result FileAnswer.TooLong
-            → IsLonger (holds self.old) name.now limit }
+            → IsLonger (told self.old).holds name.now limit }
 
-        ensures later { faults self.old ≤ faults self.new }
+        ensures later { (told self.old).faults ≤ (told self.new).faults }
         ensures cause { IsErrOf result FileAnswer.Failed
-            → Rose (faults self.old) (faults self.new) }
+            → Rose (told self.old).faults (told self.new).faults }
 
-        ensures later_by_name { NoCountFalls (failed_loads self.old) (failed_loads self.new) }
-        ensures others { ChangesOnly (failed_loads self.old) (failed_loads self.new) name.now }
+        ensures later_by_name { NoCountFalls (told self.old).failed_loads
+            (told self.new).failed_loads }
+        ensures others { ChangesOnly (told self.old).failed_loads (told self.new).failed_loads
+            name.now }
         ensures named_cause { IsErrOf result FileAnswer.Failed
-            → HasNamedCause (failed_loads self.old) (failed_loads self.new) name.now }
-        ensures saves_stay { NoCountChanges (failed_saves self.old) (failed_saves self.new) };
+            → HasNamedCause (told self.old).failed_loads (told self.new).failed_loads name.now }
+        ensures saves_stay { NoCountChanges (told self.old).failed_saves
+            (told self.new).failed_saves };
 
     /// Makes the bytes the whole file of a name, also of one that was absent, and changes no other
     /// name. After a failure nothing is told of this name's file; without memory it is as it was.
     /// Files that tell what they hold may stop telling it.
     fn save(&mut self, name: &str, bytes: &[u8]) -> Result<(), SaveAnswer>
-        ensures saved { OnOk result (Saves (holds self.new) name.now bytes.now) }
-        ensures others_kept { KeepsOthers (holds self.old) (holds self.new) name.now }
-        ensures unchanged { IsErrOf result SaveAnswer.NoMemory → holds self.new ≡ holds self.old }
+        ensures saved { OnOk result (Saves (told self.new).holds name.now bytes.now) }
+        ensures others_kept { KeepsOthers (told self.old).holds (told self.new).holds name.now }
+        ensures unchanged { IsErrOf result SaveAnswer.NoMemory →
+            (told self.new).holds ≡ (told self.old).holds }
 
-        ensures later { faults self.old ≤ faults self.new }
+        ensures later { (told self.old).faults ≤ (told self.new).faults }
         ensures cause { IsErrOf result SaveAnswer.Failed
-            → Rose (faults self.old) (faults self.new) }
+            → Rose (told self.old).faults (told self.new).faults }
 
-        ensures later_by_name { NoCountFalls (failed_saves self.old) (failed_saves self.new) }
-        ensures others { ChangesOnly (failed_saves self.old) (failed_saves self.new) name.now }
+        ensures later_by_name { NoCountFalls (told self.old).failed_saves
+            (told self.new).failed_saves }
+        ensures others { ChangesOnly (told self.old).failed_saves (told self.new).failed_saves
+            name.now }
         ensures named_cause { IsErrOf result SaveAnswer.Failed
-            → HasNamedCause (failed_saves self.old) (failed_saves self.new) name.now }
-        ensures loads_stay { NoCountChanges (failed_loads self.old) (failed_loads self.new) };
+            → HasNamedCause (told self.old).failed_saves (told self.new).failed_saves name.now }
+        ensures loads_stay { NoCountChanges (told self.old).failed_loads
+            (told self.new).failed_loads };
 }

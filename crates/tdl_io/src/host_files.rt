@@ -21,20 +21,19 @@ pub struct HostFiles<'a, R> {
 impl<'a, R: rt::Files> HostFiles<'a, R> {
     /// No call has failed yet.
     pub fn new(rt: &'a R) -> HostFiles<'a, R>
-        ensures { ⟦<HostFiles<'a, R> as Files>⟧.faults result ≡ 0 }
+        ensures { (⟦<HostFiles<'a, R> as Files>⟧.told result).faults ≡ 0 }
     {
         HostFiles { rt, faults: 0 }
     }
 }
 
 impl<R: rt::Files> Files for HostFiles<'_, R> {
-    ghost holds = { λ _. None };
-
-    ghost faults = { λ f. f.faults };
-
-    ghost failed_loads = { λ _. None };
-
-    ghost failed_saves = { λ _. None };
+    ghost told = { λ f. record {
+      holds = None;
+      faults = f.faults;
+      failed_loads = None;
+      failed_saves = None;
+    } };
 
     /// A file that is absent or cannot be read, and a directory, have failed.
     fn load(&mut self, name: &str, limit: usize, into: &mut Vec<u8>) -> Result<(), FileAnswer> {

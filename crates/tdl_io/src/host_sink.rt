@@ -3,8 +3,8 @@ ghost use Rattle.std.specs.Prelude.{◌≡◌, None};
 use crate::{Sink, SinkFailed};
 use std::io::{Print, Stderr};
 
-/// The process's standard output or standard error, and a count of the puts that failed, which stands
-/// still at the greatest u64. It does not tell what it holds.
+/// The process's standard output or standard error, and a count of the puts that failed, which
+/// stands still at the greatest u64. It does not tell what it holds.
 #[derive(Drop)]
 pub struct HostSink<P> {
     to: P,
@@ -14,7 +14,7 @@ pub struct HostSink<P> {
 impl<'a, R: Print> HostSink<&'a R> {
     /// The standard output.
     pub fn out(rt: &'a R) -> HostSink<&'a R>
-        ensures { ⟦<HostSink<&'a R> as Sink>⟧.faults result ≡ 0 }
+        ensures { (⟦<HostSink<&'a R> as Sink>⟧.told result).faults ≡ 0 }
     {
         HostSink { to: rt, faults: 0 }
     }
@@ -23,7 +23,7 @@ impl<'a, R: Print> HostSink<&'a R> {
 impl HostSink<Stderr> {
     /// The standard error.
     pub fn err(rt: &HostRuntime) -> HostSink<Stderr>
-        ensures { ⟦<HostSink<Stderr> as Sink>⟧.faults result ≡ 0 }
+        ensures { (⟦<HostSink<Stderr> as Sink>⟧.told result).faults ≡ 0 }
     {
         HostSink {
             to: rt.stderr(),
@@ -33,11 +33,9 @@ impl HostSink<Stderr> {
 }
 
 impl<P: Print> Sink for HostSink<P> {
-    ghost contents = { λ _. None };
+    ghost told = { λ s. record { contents = None; faults = s.faults } };
 
-    ghost faults = { λ s. s.faults };
-
-    /// A write that takes nothing of a piece that is not empty is a failure too.
+    /// To take no byte of some is a failure as well.
     fn put(&mut self, bytes: &[u8]) -> Result<(), SinkFailed> {
         match self.to.write_all(bytes) {
             Ok(()) => Ok(()),

@@ -1,7 +1,8 @@
-//! What the program reads and writes: files and sinks by their meaning, in memory and over the host.
+//! What the program reads and writes: files and sinks by their meaning, in memory and over the
+//! host.
 //!
-//! A fault is answered only where the count of faults of the object that was handed in rose. So code
-//! that is generic over these traits cannot give up by itself.
+//! Who answers with a fault has raised the count of the object that it was given. So code that is
+//! generic over these traits cannot fail of its own accord.
 #![tactic(auto)]
 
 mod entries;
@@ -23,5 +24,7 @@ pub use null_sink::NullSink;
 pub use quiet_files::QuietFiles;
 pub use sink::{Sink, SinkFailed};
 
+#[cfg(test)]
+mod callers;
 #[cfg(test)]
 mod tests;

@@ -48,7 +48,7 @@ impl Model for MemFiles {
 }
 
 impl MemFiles {
-    /// Of several entries with one name the first is held. Calls are counted from 1, and those whose
+    /// Where entries share a name, the earliest counts. Calls are counted from 1, and those whose
     /// numbers are in `fail` are told to fail.
     pub fn new(alloc: Global, files: Vec<(String, Vec<u8>)>, fail: Vec<u64>) -> MemFiles
         ensures { result
@@ -86,25 +86,22 @@ impl MemFiles {
 }
 
 impl Files for MemFiles {
-    ghost holds = { λ f. Some (held_in f.entries) };
+    ghost told = { λ f. record {
+      holds = Some (held_in f.entries);
+      faults = failures f.calls;
+      failed_loads = Some (failures_of Load f.calls);
+      failed_saves = Some (failures_of Save f.calls);
+    } };
 
-    ghost faults = { λ f. failures f.calls };
-
-    ghost failed_loads = { λ f. Some (failures_of Load f.calls) };
-
-    ghost failed_saves = { λ f. Some (failures_of Save f.calls) };
-
-    /// Records the call before it does anything else; one that finds no memory for its record is not
-    /// counted. It fails exactly where it is told to, or where no such name is held.
+    /// The record of the call is made before all else; one that finds no memory for its record is
+    /// not counted. It fails exactly where it is told to, or where no such name is held.
     fn load(&mut self, name: &str, limit: usize, into: &mut Vec<u8>) -> Result<(), FileAnswer>
         requires { into.old.items ≡ [] }
-
         ensures failed { IsErrOf result FileAnswer.Failed → IsTrue (load_fails self.old name.now) }
         ensures fails { IsTrue (load_fails self.old name.now)
             → IsErrOf result FileAnswer.Failed ⊎ IsErrOf result FileAnswer.NoMemory }
         ensures recorded { self.new ≡ after_load self.old name.now
             ⊎ IsErrOf result FileAnswer.NoMemory × (self.new ≡ self.old) }
-
         // What every load ensures.
         ensures held { self.new.entries ≡ self.old.entries }
         ensures whole { OnOk result (held_in self.old.entries name.now ≡ Some into.new.items) }
@@ -139,7 +136,7 @@ impl Files for MemFiles {
         read_up_to(bytes, limit, into)
     }
 
-    /// Records the call before it does anything else, as a load does. It fails exactly where it is
+    /// The record of the call is made before all else, as for a load. It fails exactly where it is
     /// told to; a name may be absent. The file is held from then on in place of an older one of its
     /// name.
     fn save(&mut self, name: &str, bytes: &[u8]) -> Result<(), SaveAnswer>
@@ -180,7 +177,7 @@ impl Files for MemFiles {
     }
 }
 
-/// Records a call behind those before it.
+/// Records a call after those before it.
 fn add_call(
     alloc: Global,
     calls: &mut Vec<Call>,

@@ -34,8 +34,8 @@ impl Model for MemSink {
 }
 
 impl MemSink {
-    /// Takes memory for `room` bytes, and none later. Puts are counted from 1, and those whose numbers
-    /// are in `fail` are told to fail.
+    /// Takes memory for `room` bytes, and none later. Puts are counted from 1, and those whose
+    /// numbers are in `fail` are told to fail.
     pub fn new(alloc: Global, room: usize, fail: Vec<u64>) -> Result<MemSink, NoMemory>
         ensures { IfOk result (λ sink. sink
             ≡ record { bytes = []; room = room; fail = fail.items; puts = 0; faults = 0 }) }
@@ -58,12 +58,9 @@ impl MemSink {
 }
 
 impl Sink for MemSink {
-    ghost contents = { λ s. Some s.bytes };
+    ghost told = { λ s. record { contents = Some s.bytes; faults = s.faults } };
 
-    ghost faults = { λ s. s.faults };
-
-    /// It fails exactly where it is told to, or where the bytes do not fit the room that is left, and
-    /// then takes no byte.
+    /// Fails where it is told to or has too little room, nowhere else, and leaves all as it was.
     fn put(&mut self, bytes: &[u8]) -> Result<(), SinkFailed>
         ensures answer { IsErr result ↔ IsTrue (put_fails self.old bytes.now) }
         ensures after { self.new ≡ after_put self.old bytes.now }

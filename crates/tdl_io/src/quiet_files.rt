@@ -23,7 +23,7 @@ impl Model for QuietFiles {
 }
 
 impl QuietFiles {
-    /// Of several entries with one name the first is held.
+    /// Where entries share a name, the earliest counts.
     pub fn new(files: Vec<(String, Vec<u8>)>) -> QuietFiles
         ensures { result ≡ record { entries = entries_of files.items; saved = false } }
     {
@@ -35,13 +35,12 @@ impl QuietFiles {
 }
 
 impl Files for QuietFiles {
-    ghost holds = { λ f. if f.saved then None else Some (held_in f.entries) };
-
-    ghost faults = { λ _. 0 };
-
-    ghost failed_loads = { λ _. Some (λ _. 0) };
-
-    ghost failed_saves = { λ _. Some (λ _. 0) };
+    ghost told = { λ f. record {
+      holds = if f.saved then None else Some (held_in f.entries);
+      faults = 0;
+      failed_loads = Some (λ _. 0);
+      failed_saves = Some (λ _. 0);
+    } };
 
     fn load(&mut self, name: &str, limit: usize, into: &mut Vec<u8>) -> Result<(), FileAnswer> {
         match find_entry(&self.files, name) {

@@ -1,6 +1,6 @@
-ghost use Rattle.std.specs.Prelude.{List, ℕ, ◌≤◌, OnOk, OnErr};
-ghost use Rattle.std.specs.declared.option.Option.{Option};
+ghost use Rattle.std.specs.Prelude.{◌≤◌, OnOk, OnErr};
 ghost use Rattle.tdl_io.specs.Outside.{Rose, Appends, AppendsPart};
+ghost use Rattle.tdl_io.specs.Told.{SinkTold};
 
 use thiserror::Error;
 
@@ -11,17 +11,17 @@ pub struct SinkFailed;
 
 /// What takes bytes, in order.
 pub trait Sink {
-    /// What it holds, or None where it does not tell it.
-    ghost contents: { Self → Option (List ℕ) };
-
-    /// A count of its faults, which never falls and may stand still at the greatest u64.
-    ghost faults: { Self → ℕ };
+    /// What it holds, and a count of its faults, which never falls and may stand still at the
+    /// greatest u64.
+    ghost told: { Self → SinkTold };
 
     /// Takes all the bytes, or fails and may have taken the first of them.
     fn put(&mut self, bytes: &[u8]) -> Result<(), SinkFailed>
-        ensures ok { OnOk result (Appends (contents self.old) (contents self.new) bytes.now) }
-        ensures err { OnErr result (AppendsPart (contents self.old) (contents self.new) bytes.now) }
+        ensures ok { OnOk result
+            (Appends (told self.old).contents (told self.new).contents bytes.now) }
+        ensures err { OnErr result
+            (AppendsPart (told self.old).contents (told self.new).contents bytes.now) }
 
-        ensures later { faults self.old ≤ faults self.new }
-        ensures cause { OnErr result (Rose (faults self.old) (faults self.new)) };
+        ensures later { (told self.old).faults ≤ (told self.new).faults }
+        ensures cause { OnErr result (Rose (told self.old).faults (told self.new).faults) };
 }

@@ -1,6 +1,4 @@
-ghost use Rattle.std.specs.Prelude.{◌≡◌, ◌<◌, ◌≤◌, ◌↔◌, ◌++◌, [], List, ℕ, Some, OnOk, OnErr, IsErrOf, length};
-ghost use Rattle.tdl_io.specs.Outside.{Held, file_in, Rose, NoCountFalls, HasNamedCause, Appends, AppendsPart};
-
+use crate::callers::{Failed, Refused, load_one, load_two, put_two, save_and_load};
 use crate::{
     FileAnswer, Files, HostFiles, HostSink, MemFiles, MemSink, NullSink, QuietFiles, SaveAnswer,
     Sink, SinkFailed,
@@ -9,107 +7,6 @@ use std::alloc::{AllocError, Global};
 use std::process::Abort;
 use std::test::Fail;
 use std::{fs, process};
-
-/// Where files tell what they hold and none failed, a load answers TooLong exactly where the file is
-/// longer than the limit.
-fn load_one<F: Files>(
-    files: &mut F,
-    name: &str,
-    limit: usize,
-    into: &mut Vec<u8>,
-) -> Result<(), FileAnswer>
-    requires { into.old.items ≡ [] }
-    ensures exact { (held : Held) → F.holds files.old ≡ Some held
-        → ¬ (Rose (F.faults files.old) (F.faults files.new))
-        → ¬ (IsErrOf result FileAnswer.NoMemory)
-        → IsErrOf result FileAnswer.TooLong ↔ (limit < length (file_in held name.now)) }
-{
-    files.load(name, limit, into)
-}
-
-/// Which of two loads failed.
-#[derive(Clone, Copy, Debug, PartialEq, Eq)]
-enum Failed {
-    First,
-    Second,
-}
-
-/// The name that failed has its count risen over both loads.
-fn load_two<F: Files>(
-    files: &mut F,
-    first: &str,
-    second: &str,
-    limit: usize,
-    into_first: &mut Vec<u8>,
-    into_second: &mut Vec<u8>,
-) -> Result<(), Failed>
-    requires first { into_first.old.items ≡ [] }
-    requires second { into_second.old.items ≡ [] }
-    ensures later { F.faults files.old ≤ F.faults files.new }
-    ensures later_by_name { NoCountFalls (F.failed_loads files.old) (F.failed_loads files.new) }
-    ensures first { IsErrOf result Failed.First
-        → HasNamedCause (F.failed_loads files.old) (F.failed_loads files.new) first.now }
-    ensures second { IsErrOf result Failed.Second
-        → HasNamedCause (F.failed_loads files.old) (F.failed_loads files.new) second.now }
-    ensures cause { OnErr result (Rose (F.faults files.old) (F.faults files.new)) }
-{
-    let early = files.load(first, limit, into_first);
-    let late = files.load(second, limit, into_second);
-    if let Err(FileAnswer::Failed) = early {
-        return Err(Failed::First);
-    }
-    if let Err(FileAnswer::Failed) = late {
-        return Err(Failed::Second);
-    }
-    Ok(())
-}
-
-/// Which call was refused of a save and of a load behind it.
-#[derive(Clone, Copy, Debug, PartialEq, Eq)]
-enum Refused {
-    Save(SaveAnswer),
-    Load(FileAnswer),
-}
-
-/// Where files tell what they hold behind a save, the saved bytes are loaded.
-fn save_and_load<F: Files>(
-    files: &mut F,
-    name: &str,
-    bytes: &[u8],
-    limit: usize,
-    into: &mut Vec<u8>,
-) -> Result<(), Refused>
-    requires { into.old.items ≡ [] }
-    ensures back { OnOk result ((held : Held) → F.holds files.new ≡ Some held
-        → into.new.items ≡ bytes.now) }
-    ensures save_cause { IsErrOf result (Refused.Save SaveAnswer.Failed)
-        → HasNamedCause (F.failed_saves files.old) (F.failed_saves files.new) name.now }
-    ensures saves_later { NoCountFalls (F.failed_saves files.old) (F.failed_saves files.new) }
-    ensures loads_later { NoCountFalls (F.failed_loads files.old) (F.failed_loads files.new) }
-{
-    if let Err(answer) = files.save(name, bytes) {
-        return Err(Refused::Save(answer));
-    }
-    if let Err(answer) = files.load(name, limit, into) {
-        return Err(Refused::Load(answer));
-    }
-    Ok(())
-}
-
-/// A sink holds both pieces, or the first piece and a part of the second one.
-fn put_two<S: Sink>(sink: &mut S, first: &[u8], second: &[u8]) -> Result<(), SinkFailed>
-    ensures ok { OnOk result
-        (Appends (S.contents sink.old) (S.contents sink.new) (first.now ++ second.now)) }
-    ensures err { OnErr result
-        (AppendsPart (S.contents sink.old) (S.contents sink.new) (first.now ++ second.now)) }
-    ensures cause { OnErr result (Rose (S.faults sink.old) (S.faults sink.new)) }
-{
-    sink.put(first)?;
-    if let Err(failed) = sink.put(second) {
-        return Err(failed);
-    }
-    Ok(())
-}
 
 /// Two files, and a second entry of the first one's name.
 fn entries(alloc: Global) -> Result<Vec<(String, Vec<u8>)>, AllocError> {

@@ -14,15 +14,16 @@ use Rattle.tdl_body.specs.declared.tree.Stmt.TheOpen.{Stmt-F, Body-F}
 use Rattle.tdl_body.specs.declared.tree.Stmt.TheViews.{roll-Body, roll-Stmt}
 use Rattle.tdl_body.specs.declared.tree.Stmt.TheFolds.{fold-roll-Body, fold-roll-Stmt, fold-Stmt, map-Stmt, map-Body}
 use Rattle.tdl_stack.specs.declared.instr.Instr.TheVariants as instr
-use Rattle.tdl_lower.specs.Templates.{Text, expr_code, body_code, expr_step, stmt_step, block_step, in_turn}
+use Rattle.tdl_base.specs.Lists.{joined}
+use Rattle.tdl_lower.specs.Templates.{Instructions, expr_code, body_code, expr_template, stmt_template, block_template}
 
 -- ---- expressions
 
 -- the code of an expression, from those of its operands
 pub expr_code-roll : (node : Expr-F Expr) →
-    expr_code (roll-Expr node) ≡ expr_step (map-Expr Expr Text expr_code node)
+    expr_code (roll-Expr node) ≡ expr_template (map-Expr Expr Instructions expr_code node)
 unfolding expr_code
-expr_code-roll node = fold-roll-Expr Text expr_step node
+expr_code-roll node = fold-roll-Expr Instructions expr_template node
 
 -- the code of what is read at a place
 pub expr_code-load : (p : Place) → expr_code (expr.Load p) ≡ instr.Load p ∷ []
@@ -38,23 +39,23 @@ expr_code-bin op a b = expr_code-roll (Expr-F.Bin op a b)
 -- ---- statements and blocks
 
 -- the code of one statement
-unfoldable pub stmt_code : Stmt → Text
-stmt_code = fold-Stmt Text Text stmt_step block_step
+unfoldable pub stmt_code : Stmt → Instructions
+stmt_code = fold-Stmt Instructions Instructions stmt_template block_template
 
 -- the code of a statement, from those of its blocks
 pub stmt_code-roll : (node : Stmt-F Stmt Body) →
-    stmt_code (roll-Stmt node) ≡ stmt_step (map-Stmt Stmt Body Text Text stmt_code body_code node)
+    stmt_code (roll-Stmt node) ≡ stmt_template (map-Stmt Stmt Body Instructions Instructions stmt_code body_code node)
 unfolding stmt_code body_code
-stmt_code-roll node = fold-roll-Stmt Text Text stmt_step block_step node
+stmt_code-roll node = fold-roll-Stmt Instructions Instructions stmt_template block_template node
 
 -- the code of a block, from those of its statements
 pub body_code-roll : (node : Body-F Stmt Body) →
-    body_code (roll-Body node) ≡ block_step (map-Body Stmt Body Text Text stmt_code body_code node)
+    body_code (roll-Body node) ≡ block_template (map-Body Stmt Body Instructions Instructions stmt_code body_code node)
 unfolding stmt_code body_code
-body_code-roll node = fold-roll-Body Text Text stmt_step block_step node
+body_code-roll node = fold-roll-Body Instructions Instructions stmt_template block_template node
 
 -- the code of a body is that of its statements in turn
-pub body_code-stmts : (stmts : List Stmt) → body_code (record { stmts = stmts }) ≡ in_turn (map stmt_code stmts)
+pub body_code-stmts : (stmts : List Stmt) → body_code (record { stmts = stmts }) ≡ joined (map stmt_code stmts)
 unfolding denote.Hole.Carrier.roll
 body_code-stmts stmts = body_code-roll (record { stmts = stmts })
 

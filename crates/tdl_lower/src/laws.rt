@@ -3,16 +3,17 @@ ghost use Rattle.std.specs.Prelude.{◌≡◌};
 ghost use Rattle.tdl_body.specs.declared.tree.Expr.{Expr};
 ghost use Rattle.tdl_body.specs.declared.tree.Body.{Body};
 ghost use Rattle.tdl_body.specs.Values.{value_of};
-ghost use Rattle.tdl_body.specs.Effects.{done};
-ghost use Rattle.tdl_stack.specs.Running.{Cells, Look, no_cells, number_of, cells_after};
+ghost use Rattle.tdl_body.specs.Effects.{effect_of};
+ghost use Rattle.tdl_base.specs.Cells.{Cells};
+ghost use Rattle.tdl_stack.specs.Running.{Outer, no_cells, code_value, cells_after};
 ghost use Rattle.tdl_lower.specs.Templates.{expr_code, body_code};
-ghost use Rattle.tdl_lower.specs.Looks.{looked, of_tree, to_tree};
+ghost use Rattle.tdl_lower.specs.Looks.{looked};
 
 /// The code of an expression has the expression's number, and the code of a body leaves the cells
 /// that the body leaves, for all expressions, bodies, outer numbers and cells.
 pub fn lowering()
-    ensures number { (e : Expr) (look : Look) →
-        number_of look (expr_code e) ≡ value_of e (looked look no_cells) }
+    ensures number { (e : Expr) (outer : Outer) →
+        code_value outer (expr_code e) ≡ value_of e (looked outer no_cells) }
     ensures cells { (b : Body) (cells : Cells) →
-        cells_after (body_code b) cells ≡ of_tree (done b (to_tree cells)) }
+        cells_after (body_code b) cells ≡ effect_of b cells }
 {}

@@ -21,8 +21,8 @@ use Rattle.tdl_deploy.specs.Named.{one_node}
 use Rattle.tdl_deploy.specs.Placed.{hosts, is_remote}
 use Rattle.tdl_deploy.specs.Passes.{WellPlaced, Passes, Invoked, is_bus, is_cpu_of, deadline}
 use Rattle.tdl_plain.specs.declared.form.Form.{Form}
-use Rattle.tdl_plain.specs.PlainProgram.{program_of, module_of, mode_of, invocation_of, task_of, period_us}
-use Rattle.tdl_walk.specs.Kept.{IsRunnable}
+use Rattle.tdl_plain.specs.PlainProgram.{program_of, plain_module, plain_mode, plain_invocation, plain_task, period_us}
+use Rattle.tdl_plain.specs.Runnable.{IsRunnable}
 use Rattle.tdl_make.specs.PlainBundle.{plain_schedule, plain_window}
 
 -- ---- lists of one item
@@ -66,34 +66,34 @@ module _ (f : Form) (runnable : IsRunnable f) where
   period_above = omega (arith, runnable.worst, runnable.within)
 
   -- the invocation's argument reads the sensor
-  well_invocation : WellInvocation (program_of f) 0 (module_of f) (mode_of f) (invocation_of f)
+  well_invocation : WellInvocation (program_of f) 0 (plain_module f) (plain_mode f) (plain_invocation f)
   well_invocation = record {
     lasts = period_above;
     ends = omega arith;
-    text = task_of f;
+    definition = plain_task f;
     task = refl;
     inputs = refl;
     fits = omega (arith, runnable.within);
     guard = tt;
-    args = (subst (AllRead (program_of f) 0 (module_of f)) (sym (places_of-load (Sensor 0))) (omega arith, tt), tt);
+    args = (subst (AllRead (program_of f) 0 (plain_module f)) (sym (places_of-load (Sensor 0))) (omega arith, tt), tt);
   }
 
   -- the mode has one invocation, and no update and no switch
-  well_mode : WellMode (program_of f) 0 (module_of f) 0 (mode_of f)
+  well_mode : WellMode (program_of f) 0 (plain_module f) 0 (plain_mode f)
   well_mode = record {
     lasts = period_above;
     invocations = λ q i at.
-        subst (WellInvocation (program_of f) 0 (module_of f) (mode_of f))
-        (only_invocation (invocation_of f) i q at)
+        subst (WellInvocation (program_of f) 0 (plain_module f) (plain_mode f))
+        (only_invocation (plain_invocation f) i q at)
         well_invocation;
     updates = λ q u at. absurd (cc at);
     switches = λ q w at. absurd (cc at);
     apart = λ q r i j at at' same before after.
-        first_invocation (invocation_of f) i q at ∙ sym (first_invocation (invocation_of f) j r at');
+        first_invocation (plain_invocation f) i q at ∙ sym (first_invocation (plain_invocation f) j r at');
     once = λ q r u v at at' same together. absurd (cc at);
     closed = λ q r w i at at' before after. cc at;
     calls = λ q r i j at at' same.
-        let e : i ≡ j = sym (only (invocation_of f) i q at) ∙ only (invocation_of f) j r at' in
+        let e : i ≡ j = sym (only (plain_invocation f) i q at) ∙ only (plain_invocation f) j r at' in
         (ap (λ (k : Invocation). k.task.0) e, ap (λ (k : Invocation). k.args) e, ap (λ (k : Invocation). k.guard) e);
     drivers = λ q r u v at at' same. absurd (cc at);
     turns = λ q r w v at at' same. absurd (cc at);
@@ -103,13 +103,13 @@ module _ (f : Form) (runnable : IsRunnable f) where
   }
 
   -- the module has one mode and one task, and imports none
-  well_module : WellModule (program_of f) 0 (module_of f)
+  well_module : WellModule (program_of f) 0 (plain_module f)
   well_module = record {
     start = omega arith;
     modes = λ n mode at.
-        subst (λ (k : ℕ). WellMode (program_of f) 0 (module_of f) k mode) (sym (first (mode_of f) mode n at))
-        (subst (WellMode (program_of f) 0 (module_of f) 0) (only (mode_of f) mode n at) well_mode);
-    worsts = λ t task at. subst (λ (u : Task). 0 < u.worst.0) (only (task_of f) task t at) runnable.worst;
+        subst (λ (k : ℕ). WellMode (program_of f) 0 (plain_module f) k mode) (sym (first (plain_mode f) mode n at))
+        (subst (WellMode (program_of f) 0 (plain_module f) 0) (only (plain_mode f) mode n at) well_mode);
+    worsts = λ t task at. subst (λ (u : Task). 0 < u.worst.0) (only (plain_task f) task t at) runnable.worst;
     imports = λ i among. absurd (cc among);
   }
 
@@ -117,8 +117,8 @@ module _ (f : Form) (runnable : IsRunnable f) where
   pub well_formed : WellFormed (program_of f)
   well_formed = record {
     modules = λ k m at.
-        subst (λ (n : ℕ). WellModule (program_of f) n m) (sym (first (module_of f) m k at))
-        (subst (WellModule (program_of f) 0) (only (module_of f) m k at) well_module);
+        subst (λ (n : ℕ). WellModule (program_of f) n m) (sym (first (plain_module f) m k at))
+        (subst (WellModule (program_of f) 0) (only (plain_module f) m k at) well_module);
   }
 
 -- ---- its placement and its schedule
@@ -149,44 +149,44 @@ module _ (f : Form) where
     owner : m ≡ 0
     mode : k ≡ 0
     number : n ≡ 1
-    invocation : invocation_of f ≡ i.invocation
-    task : task_of f ≡ i.task
+    invocation : plain_invocation f ≡ i.invocation
+    task : plain_task f ≡ i.task
 
   -- each invocation of the program is that one
   the_call : (m k n : ℕ) (i : Invoked (program_of f) m k n) → IsTheCall m k n i
   the_call m k n i = record {
-    owner = first (module_of f) i.owner m i.owner_at;
-    mode = first (mode_of f) i.mode k mode_at;
-    number = first_invocation (invocation_of f) i.invocation n invocation_at;
+    owner = first (plain_module f) i.owner m i.owner_at;
+    mode = first (plain_mode f) i.mode k mode_at;
+    number = first_invocation (plain_invocation f) i.invocation n invocation_at;
     invocation = invocation_is;
-    task = only (task_of f) i.task i.invocation.task.0 task_at;
+    task = only (plain_task f) i.task i.invocation.task.0 task_at;
   }
     where
-      owner_is : module_of f ≡ i.owner
-      owner_is = only (module_of f) i.owner m i.owner_at
+      owner_is : plain_module f ≡ i.owner
+      owner_is = only (plain_module f) i.owner m i.owner_at
 
-      mode_at : slice_get (mode_of f ∷ []) k ≡ Some i.mode
+      mode_at : slice_get (plain_mode f ∷ []) k ≡ Some i.mode
       mode_at = subst (λ (o : Module). slice_get o.modes k ≡ Some i.mode) (sym owner_is) i.mode_at
 
-      invocation_at : state.invocation_of (invocation_of f ∷ []) n ≡ Some i.invocation
+      invocation_at : state.invocation_of (plain_invocation f ∷ []) n ≡ Some i.invocation
       invocation_at =
           subst (λ (o : Mode). state.invocation_of o.invocations n ≡ Some i.invocation)
-          (sym (only (mode_of f) i.mode k mode_at))
+          (sym (only (plain_mode f) i.mode k mode_at))
           i.invocation_at
 
-      invocation_is : invocation_of f ≡ i.invocation
-      invocation_is = only_invocation (invocation_of f) i.invocation n invocation_at
+      invocation_is : plain_invocation f ≡ i.invocation
+      invocation_is = only_invocation (plain_invocation f) i.invocation n invocation_at
 
-      task_at : slice_get (task_of f ∷ []) i.invocation.task.0 ≡ Some i.task
+      task_at : slice_get (plain_task f ∷ []) i.invocation.task.0 ≡ Some i.task
       task_at = subst (λ (o : Module). slice_get o.tasks i.invocation.task.0 ≡ Some i.task) (sym owner_is) i.task_at
 
   -- the invocation of the window
   call : Invoked (program_of f) 0 0 1
   call = record {
-    owner = module_of f;
-    mode = mode_of f;
-    invocation = invocation_of f;
-    task = task_of f;
+    owner = plain_module f;
+    mode = plain_mode f;
+    invocation = plain_invocation f;
+    task = plain_task f;
     owner_at = refl;
     mode_at = refl;
     invocation_at = refl;
@@ -213,7 +213,7 @@ module _ (f : Form) where
   cpu_sum m k n e g h = rw (e, g, h) (omega arith)
 
   -- its task is not remote
-  not_remote : (m : ℕ) (u : Task) → m ≡ 0 → task_of f ≡ u →
+  not_remote : (m : ℕ) (u : Task) → m ≡ 0 → plain_task f ≡ u →
       is_remote (program_of f) (one_node (program_of f)) m u ≡ false
   not_remote m u e g = rw (e, sym g) refl
 

@@ -9,7 +9,7 @@ use Rattle.tdl_meaning.specs.Accepted.{Accepted}
 use Rattle.tdl_meaning.proofs.Meaning.{meaning}
 use Rattle.tdl_plain.specs.declared.form.Form.{Form}
 use Rattle.tdl_plain.specs.PlainProgram.{program_of}
-use Rattle.tdl_walk.specs.Kept.{IsRunnable}
+use Rattle.tdl_plain.specs.Runnable.{IsRunnable}
 use Rattle.tdl_make.specs.PlainBundle.{plain_bundle, plain_schedule}
 use Rattle.tdl_make.proofs.Compiled.{bundle_of-plain}
 use Rattle.tdl_make.proofs.PlainAccepted.{period_above, well_formed, well_placed, passes}

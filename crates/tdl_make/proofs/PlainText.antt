@@ -8,7 +8,8 @@ use Rattle.tdl_scen.specs.Scenario.{course_of, time_of}
 use Rattle.tdl_deploy.specs.Named.{names_of, one_node}
 use Rattle.tdl_plain.specs.declared.form.Form.{Form}
 use Rattle.tdl_plain.specs.PlainProgram.{program_of}
-use Rattle.tdl_walk.specs.Kept.{IsRunnable, run_text}
+use Rattle.tdl_plain.specs.Runnable.{IsRunnable}
+use Rattle.tdl_deploy.specs.Texts.{logical_text}
 use Rattle.tdl_verify.specs.Runs.{Run, Now, IsAlive, trap_rows, plain_rows, is_plain}
 use Rattle.tdl_verify.specs.Texts.{bundle_run, bundle_text, times_in}
 use Rattle.tdl_gen.specs.Realises.{IsWithinWorst, IsRunOf}
@@ -57,7 +58,8 @@ module _ (f : Form) (runnable : IsRunnable f) (s : Scenario) (none : s.times ≡
   plain_alive = is_run.alive
 
   -- what is printed of it are the lines of the logical rows, since the names are the program's
-  pub plain_text : bundle_text (plain_bundle f) s ≡ run_text f s.senses s.horizon.0
+  pub plain_text : bundle_text (plain_bundle f) s
+      ≡ logical_text (program_of f) (one_node (program_of f)) (course_of s.senses) s.horizon.0
   plain_text =
       ap (text_of (names_of (program_of f) (one_node (program_of f))))
       (alive_rows (bundle_run (plain_bundle f) s) is_run.alive ∙ is_run.rows)

@@ -7,12 +7,16 @@ use Rattle.std.specs.List.Sorted.{IsStrictlyIncreasing}
 use Rattle.tdl_base.specs.Letters.{is_word}
 use Rattle.std.proofs.lemmas.Bool.{and_parts}
 use Rattle.tdl_base.specs.declared.kinds.Kind.TheVariants.{Int}
+use Rattle.tdl_stack.specs.Spelling as stack
+use Rattle.tdl_ecode.specs.Spelling as ecode
+use Rattle.tdl_ecode.specs.declared.instr.EInstr.{EInstr}
+use Rattle.tdl_ecode.specs.declared.instr.EInstr.TheVariants.{Future, Return}
 use Rattle.tdl_image.specs.Identifiers.{IsIdentifier}
 use Rattle.tdl_image.specs.Spellable as sp
 use Rattle.tdl_plain.specs.declared.form.Form.{Form}
 use Rattle.tdl_plain.specs.PlainSource.{IsPlainForm, is_name, is_reserved}
 use Rattle.tdl_plain.specs.Tokens.{is_identifier}
-use Rattle.tdl_make.specs.PlainBundle.{plain_bundle, plain_hosted, plain_table, plain_blocks}
+use Rattle.tdl_make.specs.PlainBundle.{add_code, plain_bundle, plain_hosted, plain_table, plain_blocks}
 
 -- a number that tests as at most b
 at_most : (a b : ℕ) → nat_le a b ≡ true → a ≤ b
@@ -37,6 +41,17 @@ alone n k lt = absurd (omega (arith, lt))
 none : IsStrictlyIncreasing []
 none k lt = absurd (omega (arith, lt))
 
+-- a block of three instructions
+three_instrs : (phase : ℕ) (i j k : EInstr) → 1 ≤ phase → phase ≤ 4 → ecode.IsInRange i → ecode.IsInRange j →
+    ecode.IsInRange k →
+    sp.IsSpellableBlock (record { phase = phase; code = i ∷ j ∷ k ∷ [] })
+three_instrs phase i j k from to p q r = record {
+  at_least = from;
+  at_most = to;
+  count = omega arith;
+  code = All-from_recursion ecode.IsInRange (i ∷ j ∷ k ∷ []) (p, (q, (r, tt)));
+}
+
 module _ (f : Form) (lawful : IsPlainForm f) where
   -- the initial number can be spelled
   output : sp.IsSpellableInitial (record { kind = Int; name = f.output; initial = pos f.initial })
@@ -50,24 +65,34 @@ module _ (f : Form) (lawful : IsPlainForm f) where
   table = record {
     name = identifier f.task lawful.task_name;
     worst = lawful.worst_from;
+    worst_fits = omega (arith, lawful.worst_to, lawful.period_to);
     input_count = omega arith;
     output_count = omega arith;
     local_count = omega arith;
     outputs = one sp.IsSpellableInitial _ output;
-    body = record { count = omega arith };
+    body = record {
+      count = omega arith;
+      instrs = All-from_recursion stack.IsInRange add_code.instrs
+          (omega arith, (omega arith, (tt, (omega arith, tt))));
+    };
   }
 
   -- the five blocks can be spelled
   blocks : All sp.IsSpellableBlock (plain_blocks f)
   blocks = All-from_recursion sp.IsSpellableBlock (plain_blocks f) (
-    record { at_least = omega arith; at_most = omega arith; count = omega arith },
+    three_instrs 3 _ _ _ (omega arith) (omega arith) (omega arith) (omega arith, omega arith) tt,
     (
-      record { at_least = omega arith; at_most = omega arith; count = omega arith },
+      three_instrs 4 _ _ _ (omega arith) (omega arith) (omega arith) (omega (arith, lawful.period_to), omega arith) tt,
       (
-        record { at_least = omega arith; at_most = omega arith; count = omega arith },
+        three_instrs 1 _ _ _ (omega arith) (omega arith) (omega arith) (omega arith, omega arith) tt,
         (
-          record { at_least = omega arith; at_most = omega arith; count = omega arith },
-          (record { at_least = omega arith; at_most = omega arith; count = omega arith }, tt),
+          record {
+            at_least = omega arith;
+            at_most = omega arith;
+            count = omega arith;
+            code = All-from_recursion ecode.IsInRange (Future 0 4 ∷ Return ∷ []) ((omega arith, omega arith), (tt, tt));
+          },
+          (three_instrs 3 _ _ _ (omega arith) (omega arith) (omega arith) (omega arith, omega arith) tt, tt),
         ),
       ),
     ),
@@ -76,6 +101,7 @@ module _ (f : Form) (lawful : IsPlainForm f) where
   -- the module can be spelled
   host : sp.IsSpellableHosted (plain_hosted f)
   host = record {
+    number = omega arith;
     name = identifier f.module lawful.module_name;
     sensor_count = omega arith;
     actuator_count = omega arith;
@@ -92,18 +118,29 @@ module _ (f : Form) (lawful : IsPlainForm f) where
     tasks = one sp.IsSpellableTask _ table;
     modes = one IsIdentifier f.mode (identifier f.mode lawful.mode_name);
     calls = one sp.IsSpellableCall _ (record {
+      task = omega arith;
       count = omega arith;
-      args = one sp.IsSpellableCode _ (record { count = omega arith });
+      args = one sp.IsSpellableCode _ (record { count = omega arith; instrs = one stack.IsInRange _ (omega arith) });
     });
+    releases =
+        one sp.IsSpellableRelease _ (record { mode = omega arith; invocation = omega arith; call = omega arith });
     guards = All-nil sp.IsSpellableCode;
     drivers = All-nil sp.IsSpellableDriver;
+    windows = one sp.IsSpellableWindow _ (record {
+      mode = omega arith;
+      invocation = omega arith;
+      offset = omega arith;
+      length = omega (arith, lawful.worst_to, lawful.period_to);
+    });
     blocks = blocks;
+    entry = omega arith;
   }
 
   -- the one image can be spelled
   image : All sp.IsSpellableImage (plain_bundle f).images
   image = one sp.IsSpellableImage _ (record {
     node = record { word = refl; short = omega arith };
+    declared = omega arith;
     hosted_count = omega arith;
     stub_count = omega arith;
     hosted = one sp.IsSpellableHosted _ host;

@@ -1,4 +1,5 @@
-//! The bundle of a plain program, made from its form.
+//! The bundle of a plain program, made from its form. It goes once the generator stands, which
+//! makes the bundle of every program.
 #![tactic(auto)]
 
 pub mod laws;

@@ -1,6 +1,6 @@
 ghost use Rattle.std.specs.Prelude.{◌≡◌, IfOk};
 ghost use Rattle.tdl_make.specs.PlainBundle as plain;
-ghost use Rattle.tdl_walk.specs.Kept.{IsRunnable};
+ghost use Rattle.tdl_plain.specs.Runnable.{IsRunnable};
 
 use crate::parts::{argument, blocks, sensor, table};
 use std::alloc::Global;

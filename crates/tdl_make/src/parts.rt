@@ -1,7 +1,7 @@
 ghost use Rattle.std.specs.Prelude.{◌≡◌, ◌≤◌, [], ◌∷◌, pos, IfOk};
 ghost use Rattle.tdl_make.specs.PlainBundle.{add_code, sensor_code, plain_blocks, plain_table};
 ghost use Rattle.tdl_plain.specs.PlainProgram.{period_us};
-ghost use Rattle.tdl_walk.specs.Kept.{IsRunnable};
+ghost use Rattle.tdl_plain.specs.Runnable.{IsRunnable};
 
 use std::alloc::Global;
 use tdl_base::{BinOp, Kind, Listed, NoMemory, Place, Text};

@@ -14,14 +14,15 @@ use Rattle.tdl_mode.specs.declared.program.Update.{Update}
 use Rattle.tdl_mode.specs.States.{ModuleState}
 use Rattle.tdl_mode.specs.Phases.{update_value, phase_two}
 use Rattle.tdl_trace.specs.Shown.{Shown}
-use Rattle.tdl_deploy.specs.Rows.{listed}
+use Rattle.std.specs.Option.{option_to_list}
 use Rattle.tdl_image.specs.declared.hosted.Hosted.{Hosted}
-use Rattle.tdl_verify.specs.States.{Part, Times, Sensed}
+use Rattle.tdl_base.specs.Sensed.{Sensed}
+use Rattle.tdl_verify.specs.States.{Part, Times}
 use Rattle.tdl_image.specs.declared.bundle.Initial.{Initial}
 use Rattle.tdl_gen.specs.Tables.{initials}
 use Rattle.tdl_base.proofs.NumberedLists.{numbered-same}
 use Rattle.tdl_gen.proofs.UpdateBlocks.{value_taken, updated, all_rows}
-use Rattle.tdl_meaning.proofs.PhasesAtOffset.{Stands, update_value-is}
+use Rattle.tdl_meaning.proofs.PhasesAtOffset.{AtOffset, update_value-is}
 
 module _ (x node : ℕ) (sensed : Sensed) (times : Times) (h : Hosted) (b : ℕ) (front back : List Part) (m : Module)
     (same : h.actuators ≡ initials m.actuators) (k o : ℕ) (mode : Mode) (is : slice_get m.modes k ≡ Some mode)
@@ -30,7 +31,7 @@ module _ (x node : ℕ) (sensed : Sensed) (times : Times) (h : Hosted) (b : ℕ)
   abbrev here : ℕ → List Update
   here a = filter (λ u. u.actuator == a && u.at.0 == o) mode.updates
 
-  -- the kind of an actuator on the node is that of the module's text
+  -- the kind of an actuator on the node is that of the module's definition
   kind-same : (a : ℕ) → unwrap_or (option_map (λ p. p.kind) (slice_get h.actuators a)) Long
       ≡ unwrap_or (option_map (λ (p : PortDef). p.kind) (slice_get m.actuators a)) Long
   kind-same a = ap (λ (ps : List Initial). kind_in (slice_get ps a)) same
@@ -48,7 +49,7 @@ module _ (x node : ℕ) (sensed : Sensed) (times : Times) (h : Hosted) (b : ℕ)
       through (Some p) = refl
 
   -- the value that the block of phase 2 takes for an actuator is that of phase 2
-  value-same : (r : ModuleState) → Stands m k o x mode is r → (a : ℕ) →
+  value-same : (r : ModuleState) → AtOffset m k o x mode is r → (a : ℕ) →
       value_taken x node sensed times h b front back m k look a (here a) ≡ update_value r x look a
   value-same r stands a =
       ap (λ (kind : Kind). option_map (λ (u : Update). narrowed kind (value_of u.value look))
@@ -56,7 +57,7 @@ module _ (x node : ℕ) (sensed : Sensed) (times : Times) (h : Hosted) (b : ℕ)
       ∙ sym (update_value-is m k o x mode is r stands look a)
 
   -- the actuators after the block of phase 2 are those after phase 2
-  pub updated-is : (r : ModuleState) → Stands m k o x mode is r →
+  pub updated-is : (r : ModuleState) → AtOffset m k o x mode is r →
       updated x node sensed times h b front back m k look here 0 r.actuators ≡ (phase_two x look r).actuators
   updated-is r stands =
       numbered-same (λ a v. unwrap_or (value_taken x node sensed times h b front back m k look a (here a)) v)
@@ -64,14 +65,14 @@ module _ (x node : ℕ) (sensed : Sensed) (times : Times) (h : Hosted) (b : ℕ)
       (λ a v. ap (λ (o : Option ℤ). unwrap_or o v) (value-same r stands a)) 0 r.actuators
 
   -- the rows of the block of phase 2 are those of the actuators that phase 2 updates
-  pub act_rows-are : (r : ModuleState) → Stands m k o x mode is r →
+  pub act_rows-are : (r : ModuleState) → AtOffset m k o x mode is r →
       all_rows x node sensed times h b front back m k look here 0 r.actuators
-      ≡ joined (numbered 0 (λ a old. listed (option_map (λ v. Shown.Updated x node h.number.0 a v)
+      ≡ joined (numbered 0 (λ a old. option_to_list (option_map (λ v. Shown.Act x node h.number.0 a v)
       (update_value r x look a))) r.actuators)
   act_rows-are r stands =
       ap joined (numbered-same
-      (λ a v. listed (option_map (λ w. Shown.Updated x node h.number.0 a w)
+      (λ a v. option_to_list (option_map (λ w. Shown.Act x node h.number.0 a w)
       (value_taken x node sensed times h b front back m k look a (here a))))
-      (λ a old. listed (option_map (λ v. Shown.Updated x node h.number.0 a v) (update_value r x look a)))
-      (λ a v. ap (λ (o : Option ℤ). listed (option_map (λ w. Shown.Updated x node h.number.0 a w) o))
+      (λ a old. option_to_list (option_map (λ v. Shown.Act x node h.number.0 a v) (update_value r x look a)))
+      (λ a v. ap (λ (o : Option ℤ). option_to_list (option_map (λ w. Shown.Act x node h.number.0 a w) o))
       (value-same r stands a)) 0 r.actuators)

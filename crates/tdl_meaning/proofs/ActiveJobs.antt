@@ -1,5 +1,5 @@
 -- The active jobs of a module, from one instant to the next.
-use Rattle.std.proofs.Common.{◌≡◌, ℕ, suc, ◌+◌, ◌<◌, ◌≤◌, ℤ, List, Bool, true, false, Option, Some, None, refl, ap, sym, ◌∙◌, arith}
+use Rattle.std.proofs.Common.{◌≡◌, ℕ, suc, ◌+◌, ◌<◌, ◌≤◌, ℤ, Bool, true, false, Option, Some, None, refl, ap, sym, ◌∙◌, arith}
 use Rattle.std.specs.Prelude.{slice_get, option_map, unwrap_or, if◌then◌else◌}
 use Rattle.std.proofs.lemmas.Bool.{eq-eqb, ne_eqb}
 use Rattle.std.proofs.lemmas.Option.{same_Some}
@@ -8,13 +8,15 @@ use Rattle.tdl_body.specs.Values.{Look}
 use Rattle.tdl_mode.specs.declared.program.Module.{Module}
 use Rattle.tdl_mode.specs.declared.program.Mode.{Mode}
 use Rattle.tdl_mode.specs.declared.program.Invocation.{Invocation}
-use Rattle.tdl_mode.specs.States.{Job, TaskState, ModuleState, Sensed, invocation_of, result_of, look_of}
+use Rattle.tdl_base.specs.Sensed.{Sensed}
+use Rattle.tdl_mode.specs.States.{Job, TaskState, ModuleState, invocation_of, look_of}
 use Rattle.tdl_mode.specs.Phases.{has_ended, task_after, ended, phase_one, phase_two, phase_three, switch_target, switched, is_over}
 use Rattle.tdl_mode.specs.Instants.{alone}
-use Rattle.tdl_meaning.proofs.HostFacts.{IsJob}
-use Rattle.tdl_meaning.proofs.PhasesAtOffset.{Stands}
+use Rattle.tdl_meaning.proofs.PhasesAtOffset.{AtOffset}
 use Rattle.tdl_meaning.proofs.OpenInvocations.{times_of, WellTimes, KeptOpen, open_task, ends-at, ended_task}
 use Rattle.tdl_meaning.specs.Accepted.{Accepted}
+use Rattle.tdl_meaning.specs.HostInStep.{IsJob}
+use Rattle.tdl_meaning.specs.Entries.{ActiveJob, job_end, made_by}
 
 -- the times of all modes of a module
 abbrev pub WellModes : Module → Type 0
@@ -29,32 +31,9 @@ well_modes given kk m there k mode at = times_of given.program kk m k mode
 pub record Standing (m : Module) (x : ℕ) (r : ModuleState) : Type 0 where
   pub mode : Mode
   pub at : slice_get m.modes r.mode ≡ Some mode
-  pub text : r.text ≡ m
+  pub definition : r.definition ≡ m
   pub offset : ℕ
   pub now : x ≡ r.base + offset
-
--- an active job of task t before instant x: it began before x and ends at x or later
-pub record ActiveJob (m : Module) (x : ℕ) (r : ModuleState) (t : ℕ) : Type 0 where
-  pub mode : Mode
-  pub mode_at : slice_get m.modes r.mode ≡ Some mode
-  pub state : TaskState
-  pub there : slice_get r.tasks t ≡ Some state
-  pub job : Job
-  pub active : state.active ≡ Some job
-  pub job_mode : job.mode ≡ r.mode
-  pub invocation : Invocation
-  pub at : invocation_of mode.invocations job.invocation ≡ Some invocation
-  pub task : invocation.task.0 ≡ t
-  pub begun : r.base + invocation.s.0 < x
-  pub open' : x ≤ r.base + invocation.e.0
-
--- when an active job ends
-abbrev pub end_of : (m : Module) (x : ℕ) (r : ModuleState) (t : ℕ) → ActiveJob m x r t → ℕ
-end_of m x r t a = r.base + a.invocation.e.0
-
--- what comes of an active job
-abbrev pub made_by : (m : Module) (x : ℕ) (r : ModuleState) (t : ℕ) → ActiveJob m x r t → List ℤ
-made_by m x r t a = result_of a.state.text a.job.inputs a.state.outputs
 
 -- the same job an instant later, in the same cycle
 pub record SameJob (m : Module) (x : ℕ) (r r' : ModuleState) (t : ℕ) (a : ActiveJob m x r t) : Type 0 where
@@ -62,24 +41,24 @@ pub record SameJob (m : Module) (x : ℕ) (r r' : ModuleState) (t : ℕ) (a : Ac
   pub base : r'.base ≡ r.base
   pub mode' : r'.mode ≡ r.mode
   pub job : next.job ≡ a.job
-  pub ends : end_of m (suc x) r' t next ≡ end_of m x r t a
+  pub ends : job_end m (suc x) r' t next ≡ job_end m x r t a
   pub made : made_by m (suc x) r' t next ≡ made_by m x r t a
 
 module _ (m : Module) (well : WellModes m) (x : ℕ) (r : ModuleState) (stood : Standing m x r) (kk : ℕ) (sensed : Sensed)
     (seen : PortKey → ℤ) where
-  -- the state behind x
+  -- the state after x
   abbrev next_of : ModuleState
   next_of = alone kk x sensed seen r
 
   -- the module stands at an offset of its mode
-  stands : Stands m r.mode stood.offset x stood.mode stood.at r
-  stands = record { text = stood.text; mode' = refl; now = stood.now }
+  stands : AtOffset m r.mode stood.offset x stood.mode stood.at r
+  stands = record { definition = stood.definition; mode' = refl; now = stood.now }
 
   -- the mode of the state's number is the one that the module stands in
   same_mode : (mode : Mode) → slice_get m.modes r.mode ≡ Some mode → Some stood.mode ≡ Some mode
   same_mode mode at = sym stood.at ∙ at
 
-  -- an invocation that is open across x keeps text, mode and base, and leaves its task as phase 1 does
+  -- an invocation that is open across x keeps definition, mode and base, and leaves its task as phase 1 does
   pub kept_across : (t q : ℕ) (i : Invocation) → invocation_of stood.mode.invocations q ≡ Some i → i.task.0 ≡ t →
       r.base + i.s.0 < x → x < r.base + i.e.0 →
       KeptOpen m r.mode stood.offset x stood.mode stood.at (well r.mode stood.mode stood.at) r next_of t
@@ -127,7 +106,7 @@ module _ (m : Module) (well : WellModes m) (x : ℕ) (r : ModuleState) (stood : 
       ends-at m r.mode stood.offset x stood.mode stood.at (well r.mode stood.mode stood.at) r stands t stood.offset
       a.state a.job a.active (is_job t a) ∙ eq-eqb a.invocation.e.0 stood.offset (omega (arith, end, now))
 
-  -- a job that does not end at x is the same behind it
+  -- a job that does not end at x is the same after it
   pub stays : (t : ℕ) (a : ActiveJob m x r t) → x < r.base + a.invocation.e.0 → SameJob m x r next_of t a
   stays t a open' =
       let at = at_mode a.mode a.mode_at a.job.invocation a.invocation a.at in
@@ -180,13 +159,13 @@ module _ (m : Module) (well : WellModes m) (x : ℕ) (r : ModuleState) (stood : 
       by_target (Some target) lt = absurd (omega (arith, lt))
       by_target None lt = by_over (is_over q x) lt
 
-  -- text, mode and base behind x are those before x
+  -- definition, mode and base after x are those before x
   pub record SameCycle : Type 0 where
-    pub text : next_of.text ≡ r.text
+    pub definition : next_of.definition ≡ r.definition
     pub mode' : next_of.mode ≡ r.mode
     pub base : next_of.base ≡ r.base
 
-  -- where an offset of the cycle behind x lies before x, that cycle is the one from before x
+  -- where an offset of the cycle after x lies before x, that cycle is the one from before x
   pub same_cycle : (s : ℕ) → next_of.base + s < x → SameCycle
   unfolding alone
   same_cycle s lt =
@@ -194,12 +173,12 @@ module _ (m : Module) (well : WellModes m) (x : ℕ) (r : ModuleState) (stood : 
       let two : ModuleState = phase_two x look (phase_one x r) in
       let three : phase_three x look two ≡ two = three_kept two look s lt in
       record {
-        text = ap (λ (q : ModuleState). q.text) three;
+        definition = ap (λ (q : ModuleState). q.definition) three;
         mode' = ap (λ (q : ModuleState). q.mode) three;
         base = ap (λ (q : ModuleState). q.base) three;
       }
 
-  -- a task that has a job behind phase 1 was left by it
+  -- a task that has a job after phase 1 was left by it
   if_active : (u : TaskState) (job : Job) (b : Bool) (a : Option Job) →
       (if b then unwrap_or (option_map (ended u) a) u else u).active ≡ Some job →
       (if b then unwrap_or (option_map (ended u) a) u else u) ≡ u
@@ -207,15 +186,15 @@ module _ (m : Module) (well : WellModes m) (x : ℕ) (r : ModuleState) (stood : 
   if_active u job true (Some j) e = absurd (cc e)
   if_active u job false a e = refl
 
-  -- the job from before x that a job behind x is
+  -- the job from before x that a job after x is
   pub record Before (t : ℕ) (a' : ActiveJob m (suc x) next_of t) : Type 0 where
     pub job : ActiveJob m x r t
     pub cycle : SameCycle
     pub same : a'.job ≡ job.job
-    pub ends : end_of m (suc x) next_of t a' ≡ end_of m x r t job
+    pub ends : job_end m (suc x) next_of t a' ≡ job_end m x r t job
     pub made : made_by m (suc x) next_of t a' ≡ made_by m x r t job
 
-  -- a job that is active behind x and began before x was active before x
+  -- a job that is active after x and began before x was active before x
   pub was_active : (t : ℕ) (a' : ActiveJob m (suc x) next_of t) → next_of.base + a'.invocation.s.0 < x → Before t a'
   was_active t a' lt =
       let b : SameCycle = same_cycle a'.invocation.s.0 lt in

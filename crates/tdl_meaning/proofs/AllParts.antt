@@ -3,11 +3,7 @@ use Rattle.std.proofs.Common.{◌≡◌, ℕ, zero, suc, ◌+◌, List, [], ◌�
 use Rattle.std.specs.Prelude.{slice_get, unwrap_or}
 use Rattle.tdl_verify.specs.States.{Part, NodeNow, HostNow}
 use Rattle.tdl_image.specs.declared.hosted.Hosted.{Hosted}
-
--- P holds of each node with its number, the first having number k
-abbrev pub AllNodes : (ℕ → NodeNow → Type 0) → ℕ → List NodeNow → Type 0
-AllNodes P k [] = Unit {0}
-AllNodes P k (n ∷ more) = P k n × AllNodes P (suc k) more
+use Rattle.tdl_meaning.specs.AllItems.{AllNodes}
 
 -- so it holds of the node at a place
 pub node-at : (P : ℕ → NodeNow → Type 0) (k : ℕ) (nodes : List NodeNow) → AllNodes P k nodes →

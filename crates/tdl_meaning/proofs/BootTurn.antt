@@ -16,7 +16,8 @@ use Rattle.tdl_trace.specs.Shown.{Shown}
 use Rattle.tdl_ecode.specs.declared.instr.EInstr.TheVariants as ec
 use Rattle.tdl_ecode.specs.declared.instr.Block.{Block}
 use Rattle.tdl_image.specs.declared.hosted.Hosted.{Hosted}
-use Rattle.tdl_verify.specs.States.{TaskNow, HostNow, Part, Times, Sensed, part_outputs, task_first}
+use Rattle.tdl_base.specs.Sensed.{Sensed}
+use Rattle.tdl_verify.specs.States.{TaskNow, HostNow, Part, Times, part_outputs, task_first}
 use Rattle.tdl_verify.specs.States as st
 use Rattle.tdl_verify.specs.Turns.{due_of, phase_of}
 use Rattle.tdl_gen.specs.BlockNames.{BlockName, block_number}
@@ -24,7 +25,7 @@ use Rattle.tdl_gen.specs.Blocks.{block_of, mode_block, ending, updates_at, laid,
 use Rattle.tdl_gen.specs.Counts.{greatest, length_of, before_starts, at_offsets, has_ends, module_count}
 use Rattle.tdl_gen.specs.Tables.{hosted_of, task_table, initials}
 use Rattle.tdl_mode.specs.WellFormed.{WellModule}
-use Rattle.tdl_meaning.proofs.HostFacts.{ReleasePairs, covers_of, worst_of}
+use Rattle.tdl_meaning.proofs.HostFacts.{ReleasePairs}
 use Rattle.tdl_gen.proofs.BlockPlaces.{block_found, starts_found}
 use Rattle.tdl_verify.proofs.Leads.{leads_on}
 use Rattle.tdl_gen.proofs.HostBlocks.{begins, has_found}
@@ -39,22 +40,24 @@ use Rattle.tdl_meaning.proofs.HostTurns.{HostComes}
 use Rattle.tdl_meaning.proofs.IdleTurn.{idle_move}
 use Rattle.tdl_meaning.specs.Accepted.{Accepted}
 use Rattle.tdl_meaning.proofs.ItemPlaces.{item_at}
+use Rattle.tdl_deploy.specs.AtRelease.{worst_case_of}
+use Rattle.tdl_meaning.specs.HostInStep.{covers_of}
 
--- the first values of ports on the node are those of their texts
-pub initials-same : (ports : List PortDef) → st.initials (initials ports) ≡ initials_of ports
-initials-same [] = refl
-initials-same (p ∷ ps) = ap (λ vs. p.initial ∷ vs) (initials-same ps)
+-- the first values of ports on the node are those of their definitions
+pub initial_values-same : (ports : List PortDef) → st.initial_values (initials ports) ≡ initials_of ports
+initial_values-same [] = refl
+initial_values-same (p ∷ ps) = ap (λ vs. p.initial ∷ vs) (initial_values-same ps)
 
 -- the first outputs of all tasks are the same
 pub outputs-first : (ts : List Task) → map (λ (w : TaskNow). w.outputs) (map task_first (map task_table ts))
     ≡ map (λ (u : TaskState). u.outputs) (map begun_task ts)
 outputs-first [] = refl
-outputs-first (t ∷ ts) = ap₂ (λ o os. o ∷ os) (initials-same t.outputs) (outputs-first ts)
+outputs-first (t ∷ ts) = ap₂ (λ o os. o ∷ os) (initial_values-same t.outputs) (outputs-first ts)
 
--- the tasks begin with their texts
-texts-first : (ts : List Task) → map (λ (u : TaskState). u.text) (map begun_task ts) ≡ ts
-texts-first [] = refl
-texts-first (t ∷ ts) = ap (λ us. t ∷ us) (texts-first ts)
+-- the tasks begin with their definitions
+definitions-first : (ts : List Task) → map (λ (u : TaskState). u.definition) (map begun_task ts) ≡ ts
+definitions-first [] = refl
+definitions-first (t ∷ ts) = ap (λ us. t ∷ us) (definitions-first ts)
 
 -- before the first releases the tasks are ready for them
 pairs_first : (k : ℕ) (mode : Mode) (covers : ℕ → ℕ → ℕ) (worst : ℕ → ℕ) (all : List Task) (n : ℕ) (ts : List Task) →
@@ -65,9 +68,9 @@ pairs_first k mode covers worst all n [] at = tt
 pairs_first k mode covers worst all n (t ∷ ts) at =
     let z : n ≡ n + 0 = omega arith in (
       record {
-        pair = record { outputs = initials-same t.outputs; slot = tt };
+        pair = record { outputs = initial_values-same t.outputs; slot = tt };
         older = tt;
-        text = ap (slice_get all) z ∙ at 0 t refl;
+        definition = ap (slice_get all) z ∙ at 0 t refl;
       },
       pairs_first k mode covers worst all (suc n) ts (λ q u e. let s : suc n + q ≡ n + suc q = omega arith in
           ap (slice_get all) s ∙ at (suc q) u e),
@@ -88,7 +91,7 @@ module _ (given : Accepted) (kk : ℕ) (m : Module) (wm : WellModule given.progr
     base = 0;
     trigger = Some (record { at = 0; block = block_number m BlockName.Boot });
     tasks = map task_first (map task_table m.tasks);
-    actuators = st.initials (initials m.actuators);
+    actuators = st.initial_values (initials m.actuators);
   }
 
   -- its state when its start mode is entered
@@ -110,7 +113,7 @@ module _ (given : Accepted) (kk : ℕ) (m : Module) (wm : WellModule given.progr
   pub boot_turn : PartMoves 0 node sensed times seen ns (Part.Host h first)
       (record { number = kk; outputs = λ t. part_outputs (Part.Host h first) t })
       (HostComes m h 0 (phase_four 0 (look_of kk (entered m).tasks sensed seen) (entered m)))
-      [] [] (Shown.Entered 0 node kk m.start.0 ∷ []) (module_count m)
+      [] [] (Shown.Mode 0 node kk m.start.0 ∷ []) (module_count m)
   unfolding idle_move
   boot_turn =
       let k : ℕ = m.start.0 in
@@ -127,7 +130,7 @@ module _ (given : Accepted) (kk : ℕ) (m : Module) (wm : WellModule given.progr
       let three : Move 0 node sensed times 3 (Sees seen ns) = record {
         before = Part.Host h first;
         after = Part.Host h begun;
-        rows = Shown.Entered 0 node kk k ∷ [];
+        rows = Shown.Mode 0 node kk k ∷ [];
         cost = 3;
         leads = λ front back fit low none.
             leads_on 0 node sensed times 0 3 _ _ _ _ _ _ _ _
@@ -145,15 +148,15 @@ module _ (given : Accepted) (kk : ℕ) (m : Module) (wm : WellModule given.progr
         offset = 0;
         off = zero_offset mode;
         below = wmode.lasts;
-        text = refl;
+        definition = refl;
         now = refl;
         mode' = refl;
         base = refl;
         grain = λ g cycles. dvd-zero g;
-        texts' = texts-first m.tasks;
-        tasks = pairs_first k mode (covers_of k h) (worst_of m) m.tasks 0 m.tasks
+        texts' = definitions-first m.tasks;
+        tasks = pairs_first k mode (covers_of k h) (worst_case_of m) m.tasks 0 m.tasks
             (λ t task at. let y : 0 + t ≡ t = omega arith in ap (slice_get m.tasks) y ∙ at);
-        actuators = initials-same m.actuators;
+        actuators = initial_values-same m.actuators;
         sizes = length-map m.actuators (λ (d : PortDef). d.initial);
         trigger = refl;
       } in

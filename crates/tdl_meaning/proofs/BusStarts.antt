@@ -1,4 +1,4 @@
--- The frames that start on the bus behind the turns of an instant, and that none starts while another is there.
+-- The frames that start on the bus after the turns of an instant, and that none starts while another is there.
 use Rattle.std.proofs.Common.{◌≡◌, ℕ, suc, ◌+◌, ◌<◌, List, [], ◌∷◌, filter, length, ◌&&◌, ◌==◌, Some, true, refl, ap, sym, ◌∙◌, subst, subst₂, arith}
 use Rattle.std.specs.Prelude.{slice_get, flat_map}
 use Rattle.std.proofs.lemmas.Bool.{eqb-true, eq-eqb, and_parts, and_from}
@@ -14,16 +14,17 @@ use Rattle.tdl_verify.specs.Turns.{is_mode}
 use Rattle.tdl_verify.specs.Bus.{Flight, Start, starts_at, start_of, starts}
 use Rattle.tdl_gen.specs.Tables.{windows_of}
 use Rattle.tdl_base.proofs.ListPlaces.{In, in-filter, in-flat, some-flat}
-use Rattle.tdl_meaning.proofs.HostFacts.{HostAfter}
-use Rattle.tdl_meaning.proofs.FramesOnBus.{Carries}
-use Rattle.tdl_meaning.proofs.WindowSends.{WellWindow, sends_frame, carries_sent}
+use Rattle.tdl_meaning.proofs.WindowSends.{sends_frame, carries_sent}
 use Rattle.tdl_meaning.proofs.BusWindowsApart.{OnGrain}
 use Rattle.tdl_meaning.proofs.OneStart.{AllOnBus, Busy, SenderStands, no_start_busy}
 use Rattle.tdl_meaning.proofs.MappedLists.{map-to}
 use Rattle.tdl_meaning.proofs.FilterCounts.{some-passes}
 use Rattle.tdl_meaning.proofs.ImageWindows.{scheduled_window}
-use Rattle.tdl_meaning.proofs.PartsAndBus.{PartBehind, FlightFact, Parts}
 use Rattle.tdl_meaning.specs.Accepted.{Accepted}
+use Rattle.tdl_meaning.specs.HostInStep.{HostAfter}
+use Rattle.tdl_meaning.specs.BusFrames.{Carries, FlightFact}
+use Rattle.tdl_meaning.specs.BusTables.{WellWindow}
+use Rattle.tdl_meaning.specs.PartFacts.{PartAfterTurn, Parts}
 
 -- a bus window of module kk, in the mode that the module is in
 pub record ModeWindow (given : Accepted) (next : ℕ → ModuleState) (kk : ℕ) (m : Module) (w : ImageWindow) : Type 0 where
@@ -34,7 +35,7 @@ pub record ModeWindow (given : Accepted) (next : ℕ → ModuleState) (kk : ℕ)
   pub mode' : w.mode ≡ (next kk).mode
 
 module _ (given : Accepted) (gone : ℕ → ℕ → Type 0) (x : ℕ) (next : ℕ → ModuleState) (after : List Part)
-    (behind : Parts given gone (PartBehind given gone x next) after) where
+    (known_after : Parts given (PartAfterTurn given gone x next) after) where
   -- the starts of all parts
   abbrev pub part_starts : List Start
   part_starts = flat_map (starts x) after
@@ -42,18 +43,18 @@ module _ (given : Accepted) (gone : ℕ → ℕ → Type 0) (x : ℕ) (next : �
   -- what the bus needs of the parts
   pub on_bus : AllOnBus given after
   on_bus n (Part.Host h s) at =
-      let b = behind.each n (Part.Host h s) at in
+      let b = known_after.each n (Part.Host h s) at in
       record {
-        text = b.tables.text;
+        definition = b.tables.definition;
         there = b.tables.there;
         windows = b.tables.windows;
         mode = (next h.number.0).mode;
         mode' = b.facts.facts.mode';
-        grain = subst (OnGrain b.tables.text) (sym b.facts.facts.base) b.facts.facts.grain;
+        grain = subst (OnGrain b.tables.definition) (sym b.facts.facts.base) b.facts.facts.grain;
       }
   on_bus n (Part.Outside q t) at = tt
 
-  -- the host of a module behind the turns
+  -- the host of a module after the turns
   record Owned (kk : ℕ) (m : Module) : Type 0 where
     place : ℕ
     host : Hosted
@@ -67,10 +68,10 @@ module _ (given : Accepted) (gone : ℕ → ℕ → Type 0) (x : ℕ) (next : �
   -- each module has a host
   owned : (kk : ℕ) (m : Module) → slice_get given.program.modules kk ≡ Some m → Owned kk m
   owned kk m there =
-      let o = behind.hosted kk m there in
-      let b = behind.each o.place (Part.Host o.host o.state) o.at in
-      let text : b.tables.text ≡ m =
-      same_Some b.tables.text m (sym b.tables.there ∙ ap (slice_get given.program.modules) o.number ∙ there) in
+      let o = known_after.hosted kk m there in
+      let b = known_after.each o.place (Part.Host o.host o.state) o.at in
+      let definition : b.tables.definition ≡ m =
+      same_Some b.tables.definition m (sym b.tables.there ∙ ap (slice_get given.program.modules) o.number ∙ there) in
       record {
         place = o.place;
         host = o.host;
@@ -79,8 +80,8 @@ module _ (given : Accepted) (gone : ℕ → ℕ → Type 0) (x : ℕ) (next : �
         number = o.number;
         windows = b.tables.windows ∙ ap (windows_of given.schedule) o.number;
         wells = subst (λ t. (n : ℕ) (w : ImageWindow) → slice_get o.host.windows n ≡ Some w → w.bus ≡ true →
-            WellWindow t o.host w) text b.tables.wells;
-        facts = subst₂ (λ k t. HostAfter t o.host x (next k) o.state) o.number text b.facts;
+            WellWindow t o.host w) definition b.tables.wells;
+        facts = subst₂ (λ k t. HostAfter t o.host x (next k) o.state) o.number definition b.facts;
       }
 
   -- the frame of a bus window that starts: it is among the starts, and carries what the window's frame must
@@ -127,10 +128,10 @@ module _ (given : Accepted) (gone : ℕ → ℕ → Type 0) (x : ℕ) (next : �
   -- a bus window that starts
   pub record SomeStart : Type 0 where
     pub kk : ℕ
-    pub text : Module
+    pub definition : Module
     pub window : ImageWindow
-    pub own : ModeWindow given next kk text window
-    pub starts' : Starting kk text window
+    pub own : ModeWindow given next kk definition window
+    pub starts' : Starting kk definition window
 
   -- there is one where there are starts
   pub some_start : 0 < length part_starts → SomeStart
@@ -142,7 +143,7 @@ module _ (given : Accepted) (gone : ℕ → ℕ → Type 0) (x : ℕ) (next : �
       by_part n (Part.Outside q t) at lt = absurd (omega (arith, lt))
       by_part n (Part.Host h s) at lt =
           let kk : ℕ = h.number.0 in
-          let b = behind.each n (Part.Host h s) at in
+          let b = known_after.each n (Part.Host h s) at in
           let size = length-map (filter (starts_at x s) h.windows) (start_of h s) in
           let v = some-passes (starts_at x s) h.windows (omega (arith, lt, size)) in
           let bus = and_parts v.item.bus (is_mode v.item.mode s.mode && s.base + v.item.offset == x) v.passes in
@@ -151,7 +152,7 @@ module _ (given : Accepted) (gone : ℕ → ℕ → Type 0) (x : ℕ) (next : �
           sym (ap (is_mode v.item.mode) b.facts.facts.mode') ∙ now.0 in
           let begins : (next kk).base + v.item.offset ≡ x =
           ap (λ j. j + v.item.offset) (sym b.facts.facts.base) ∙ eqb-true (s.base + v.item.offset) x now.1 in
-          let own : ModeWindow given next kk b.tables.text v.item = record {
+          let own : ModeWindow given next kk b.tables.definition v.item = record {
             there = b.tables.there;
             place = v.place;
             at = ap (λ ws. slice_get ws v.place) (sym b.tables.windows) ∙ v.at;
@@ -160,19 +161,19 @@ module _ (given : Accepted) (gone : ℕ → ℕ → Type 0) (x : ℕ) (next : �
           } in
           record {
             kk = kk;
-            text = b.tables.text;
+            definition = b.tables.definition;
             window = v.item;
             own = own;
-            starts' = starting kk b.tables.text v.item own begins;
+            starts' = starting kk b.tables.definition v.item own begins;
           }
 
   -- nothing starts while a frame is there
-  pub no_start_flying : (f : Flight) → FlightFact given gone (suc x) next f → f.sent_at < x → x < f.until →
+  pub no_start_flying : (f : Flight) → FlightFact given (suc x) next f → f.sent_at < x → x < f.until →
       length part_starts ≡ 0
   no_start_flying f q sent later =
       let c = q.flies.carries in
       let v = scheduled_window given.schedule q.owner q.flies.place q.flies.window q.flies.at q.flies.bus in
-      let o = owned q.owner q.text q.there in
+      let o = owned q.owner q.definition q.there in
       let from = c.from in
       let until = c.until in
       let off = v.offset' in
@@ -182,7 +183,7 @@ module _ (given : Accepted) (gone : ℕ → ℕ → Type 0) (x : ℕ) (next : �
         window = v.window;
         at = v.at;
         bus = v.bus';
-        text = q.text;
+        definition = q.definition;
         there = ap (slice_get given.program.modules) v.module' ∙ q.there;
         base = (next q.owner).base;
         grain = o.facts.facts.grain;
@@ -195,7 +196,7 @@ module _ (given : Accepted) (gone : ℕ → ℕ → Type 0) (x : ℕ) (next : �
           b.base ≡ (next q.owner).base → (n : ℕ) (r : Part) → slice_get after n ≡ Some r → SenderStands given x b r
       stands b module' mode base n (Part.Outside r t) at = tt
       stands b module' mode base n (Part.Host h s) at = λ same.
-          let d = behind.each n (Part.Host h s) at in
+          let d = known_after.each n (Part.Host h s) at in
           let e : h.number.0 ≡ q.owner = same ∙ module' in (
             d.facts.facts.mode' ∙ ap Some (ap (λ k. (next k).mode) e ∙ sym mode),
             d.facts.facts.base ∙ ap (λ k. (next k).base) e ∙ sym base,

@@ -14,16 +14,15 @@ use Rattle.tdl_image.specs.declared.stub.Receive.{Receive}
 use Rattle.tdl_deploy.specs.Passes.{is_bus, Invoked, is_of, is_bus_of, is_cpu_of, deadline}
 use Rattle.tdl_gen.specs.Tables.{windows_of, bus_end, receives}
 use Rattle.tdl_mode.specs.WellFormed.{WellModule}
-use Rattle.tdl_meaning.proofs.FramesOnBus.{WellReceive}
-use Rattle.tdl_meaning.proofs.EntriesDelivered.{Sender}
 use Rattle.tdl_meaning.proofs.FilterCounts.{some-passes, find-only}
 use Rattle.tdl_meaning.proofs.ImageWindows.{scheduled_window, imaged_window}
 use Rattle.tdl_gen.proofs.EntryTables.{origin}
 use Rattle.tdl_meaning.specs.Accepted.{Accepted}
+use Rattle.tdl_meaning.specs.BusTables.{WellReceive, Sender}
 
 module _ (given : Accepted) (kk : ℕ) (m : Module) (there : slice_get given.program.modules kk ≡ Some m)
     (well : WellModule given.program kk m) where
-  -- the bus window of a remote invocation: the only one, inside the invocation, and behind all its processor windows
+  -- the bus window of a remote invocation: the only one, inside the invocation, and after all its processor windows
   pub record BusOf (k n : ℕ) (i : Invocation) : Type 0 where
     pub place : ℕ
     pub window : Window
@@ -199,7 +198,7 @@ module _ (given : Accepted) (kk : ℕ) (m : Module) (there : slice_get given.pro
       let ie : i.e.0 ≡ o.invocation.e.0 = ap (λ (i : Invocation). i.e.0) same in
       (ap (λ (i : Invocation). i.task.0) same ∙ o.task, omega (arith, end, within, delta, ie))
 
-  -- each receive entry has a bus window in the image, behind its invocation's start
+  -- each receive entry has a bus window in the image, after its invocation's start
   pub sender : (j : ℕ) (e : Receive) → slice_get entries j ≡ Some e → Sender m (windows_of given.schedule kk) e
   unfolding entry_window
   sender j e at =

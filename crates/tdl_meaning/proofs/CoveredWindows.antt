@@ -1,8 +1,7 @@
 -- The windows of a schedule that passes, in the order of the images: each comes from the schedule, and those of an
 -- invocation cover nothing before its start and its worst case at its end.
-use Rattle.std.proofs.Common.{◌≡◌, ℕ, ◌+◌, ◌≤◌, List, [], ◌∷◌, map, Bool, true, false, not, ◌&&◌, ◌==◌, Option, Some, None, filter, refl, ap, ap₂, ◌∙◌, arith}
-use Rattle.std.specs.Prelude.{slice_get, option_map, unwrap_or, if◌then◌else◌, find, sum}
-use Rattle.std.specs.List.{fold}
+use Rattle.std.proofs.Common.{◌≡◌, ℕ, ◌+◌, ◌≤◌, List, [], ◌∷◌, map, Bool, true, false, not, ◌&&◌, ◌==◌, Option, Some, None, filter, refl, ap, ◌∙◌, arith}
+use Rattle.std.specs.Prelude.{slice_get, option_map, unwrap_or, if◌then◌else◌, find}
 use Rattle.std.proofs.lemmas.Bool.{eqb-true, and_parts}
 use Rattle.tdl_mode.specs.declared.program.Module.{Module}
 use Rattle.tdl_mode.specs.declared.program.Task.{Task}
@@ -12,17 +11,17 @@ use Rattle.tdl_deploy.specs.declared.schedule.Schedule.{Schedule}
 use Rattle.tdl_deploy.specs.declared.schedule.Window.{Window}
 use Rattle.tdl_image.specs.declared.hosted.ImageWindow.{ImageWindow}
 use Rattle.tdl_deploy.specs.Passes.{is_bus, Invoked, is_of, is_cpu_of, is_bus_of, deadline}
-use Rattle.tdl_gen.specs.Tables.{image_window, is_before, placed, ordered_from, windows_of, hosted_of}
-use Rattle.tdl_verify.proofs.Covered.{Between, covered_whole, covered_none}
-use Rattle.tdl_verify.specs.Covered.{is_own, only_if}
-use Rattle.tdl_verify.proofs.Covered as units
+use Rattle.tdl_gen.specs.Tables.{image_window, windows_of, hosted_of}
+use Rattle.tdl_verify.proofs.Covered.{Between, covered_none}
+use Rattle.tdl_verify.specs.Covered.{is_own}
 use Rattle.tdl_mode.specs.WellFormed.{WellModule}
-use Rattle.tdl_meaning.proofs.HostFacts.{worst_of}
 use Rattle.tdl_meaning.proofs.Pairwise.{every-made, every-ordered}
 use Rattle.tdl_meaning.proofs.PhaseFour.{AllCovered}
 use Rattle.tdl_meaning.specs.Accepted.{Accepted}
-use Rattle.tdl_meaning.proofs.Every.{Every}
 use Rattle.tdl_base.proofs.Finding.{found_by}
+use Rattle.tdl_deploy.specs.AtRelease.{worst_case_of}
+use Rattle.tdl_meaning.specs.AllItems.{Every}
+use Rattle.tdl_meaning.proofs.WindowsCover.{covers_all}
 
 -- a window of an image is one of the schedule, for module m
 pub record FromSchedule (sch : Schedule) (m : ℕ) (w : ImageWindow) : Type 0 where
@@ -38,72 +37,6 @@ all_from sch m =
     every-ordered (FromSchedule sch m) [] (map image_window (filter (λ w. w.module.0 == m) sch.windows)) tt
     (every-made (FromSchedule sch m) image_window (λ (w : Window). w.module.0 == m) sch.windows
     (λ n w at e. record { place = n; window = w; at = at; is = refl; owner = eqb-true w.module.0 m e }))
-
--- ---- lengths
-
--- a window put in its place adds its length to that of its invocation
-length-placed : (m i : ℕ) (w : ImageWindow) (vs : List ImageWindow) →
-    units.length_of m i (placed w vs) ≡ only_if (is_own m i w) w.length + units.length_of m i vs
-length-placed m i w [] = refl
-length-placed m i w (v ∷ vs) = by_test (length-placed m i w vs) (is_before w v)
-  where
-    by_test : units.length_of m i (placed w vs) ≡ only_if (is_own m i w) w.length + units.length_of m i vs →
-        (t : Bool) →
-        units.length_of m i (if t then w ∷ v ∷ vs else v ∷ placed w vs)
-        ≡ only_if (is_own m i w) w.length + (only_if (is_own m i v) v.length + units.length_of m i vs)
-    by_test rest true = refl
-    by_test rest false = omega (arith, rest)
-
--- windows put in order add their lengths
-length-ordered : (m i : ℕ) (done ws : List ImageWindow) → units.length_of m i (ordered_from done ws)
-    ≡ units.length_of m i done + units.length_of m i ws
-length-ordered m i done [] = omega arith
-length-ordered m i done (w ∷ ws) = let a = length-ordered m i (placed w done) ws in let b = length-placed m i w done in
-    omega (arith, a, b)
-
--- a sum from a is a and the sum
-pub fold-from : (a : ℕ) (ns : List ℕ) → fold ◌+◌ a ns ≡ a + sum ns
-fold-from a [] = omega arith
-fold-from a (n ∷ ns) = let f = fold-from (a + n) ns in let g = fold-from (0 + n) ns in omega (arith, f, g)
-
--- the lengths of an invocation's windows in the image are those in the schedule
-length-same : (kk m i : ℕ) (ws : List Window) →
-    units.length_of m i (map image_window (filter (λ w. w.module.0 == kk) ws))
-    ≡ sum (map (λ (w : Window). w.length) (filter (is_cpu_of kk m i) ws))
-length-same kk m i [] = refl
-length-same kk m i (w ∷ ws) = by_tests (length-same kk m i ws) (is_bus w.resource) (w.module.0 == kk)
-    (w.mode.0 == m && w.invocation == i) refl refl
-  where
-    by_tests : units.length_of m i (map image_window (filter (λ w. w.module.0 == kk) ws))
-        ≡ sum (map (λ (w : Window). w.length) (filter (is_cpu_of kk m i) ws)) → (b c d : Bool) → is_bus w.resource ≡ b →
-        (w.mode.0 == m && w.invocation == i) ≡ d →
-        units.length_of m i (map image_window
-        (if c then w ∷ filter (λ w. w.module.0 == kk) ws else filter (λ w. w.module.0 == kk) ws))
-        ≡ sum (map (λ (w : Window). w.length) (if (if b then false else true) && (c && d)
-        then w ∷ filter (is_cpu_of kk m i) ws else filter (is_cpu_of kk m i) ws))
-    by_tests rest true false d e f = rest
-    by_tests rest false false d e f = rest
-    by_tests rest true true d e f =
-        let q : only_if (not (is_bus w.resource) && (w.mode.0 == m && w.invocation == i)) w.length ≡ 0 =
-        ap₂ (λ t u. only_if (not t && u) w.length) e f in
-        omega (arith, rest, q)
-    by_tests rest false true true e f =
-        let q : only_if (not (is_bus w.resource) && (w.mode.0 == m && w.invocation == i)) w.length ≡ w.length =
-        ap₂ (λ t u. only_if (not t && u) w.length) e f in
-        let s = fold-from (0 + w.length) (map (λ (w : Window). w.length) (filter (is_cpu_of kk m i) ws)) in
-        omega (arith, rest, q, s)
-    by_tests rest false true false e f =
-        let q : only_if (not (is_bus w.resource) && (w.mode.0 == m && w.invocation == i)) w.length ≡ 0 =
-        ap₂ (λ t u. only_if (not t && u) w.length) e f in
-        omega (arith, rest, q)
-
--- the lengths of an invocation's windows in the image of its module are those in the schedule
-length-windows : (sch : Schedule) (kk m i : ℕ) → units.length_of m i (windows_of sch kk)
-    ≡ sum (map (λ (w : Window). w.length) (filter (is_cpu_of kk m i) sch.windows))
-length-windows sch kk m i =
-    let a = length-ordered m i [] (map image_window (filter (λ (w : Window). w.module.0 == kk) sch.windows)) in
-    let b = length-same kk m i sch.windows in
-    omega (arith, a, b)
 
 -- ---- what the windows of an invocation cover
 
@@ -171,6 +104,25 @@ module _ (given : Accepted) where
           cpu true h = absurd (cc h)
           cpu false h = refl
 
+  -- the processor windows of an invocation end by its end
+  end_by : (kk k n : ℕ) (i : Invoked given.program kk k n) (j : ℕ) (w : Window) →
+      slice_get given.schedule.windows j ≡ Some w → is_cpu_of kk k n w ≡ true →
+      w.offset + w.length ≤ i.invocation.e.0
+  end_by kk k n i j w at is_cpu =
+      let a = and_parts (if is_bus w.resource then false else true) (is_of kk k n w) is_cpu in
+      let b = and_parts (w.module.0 == kk) (w.mode.0 == k && w.invocation == n) a.1 in
+      let c = and_parts (w.mode.0 == k) (w.invocation == n) b.1 in
+      let named : Invoked given.program w.module.0 w.mode.0 w.invocation =
+      named_as kk k n w.module.0 w.mode.0 w.invocation (eqb-true w.module.0 kk b.0) (eqb-true w.mode.0 k c.0)
+      (eqb-true w.invocation n c.1) i in
+      let q = (given.passes.within j w at (cpu (is_bus w.resource) a.0) named).1 in
+      let d = deadline-below w.module.0 w.mode.0 w.invocation named in
+      omega (arith, q, d)
+    where
+      cpu : (b : Bool) → (if b then false else true) ≡ true → b ≡ false
+      cpu true h = absurd (cc h)
+      cpu false h = refl
+
   -- the windows of each invocation of a module cover nothing before its start, and its worst case at its end
   pub all_covered : (kk : ℕ) (m : Module) → slice_get given.program.modules kk ≡ Some m →
       WellModule given.program kk m → AllCovered m (hosted_of given.schedule kk m)
@@ -179,12 +131,11 @@ module _ (given : Accepted) where
     full = λ n i it.
         let v = invoked n i it in
         let w = (well.modes k mode is).invocations n i it in
-        let c = covered_whole k n i.s.0 i.e.0 (windows_of given.schedule kk) (all_between n v) in
-        let l = length-windows given.schedule kk k n in
+        let c = covers_all given.schedule kk k n i.e.0 (end_by kk k n v) in
         let e = given.passes.enough kk k n v in
-        let worst : worst_of m i.task.0 ≡ w.text.worst.0 =
+        let worst : worst_case_of m i.task.0 ≡ w.definition.worst.0 =
         ap (λ o. unwrap_or (option_map (λ (u : Task). u.worst.0) o) 0) w.task in
-        omega (arith, c, l, e, worst);
+        omega (arith, c, e, worst);
   }
     where
       invoked : (n : ℕ) (i : Invocation) → invocation_of mode.invocations n ≡ Some i → Invoked given.program kk k n
@@ -194,7 +145,7 @@ module _ (given : Accepted) where
             owner = m;
             mode = mode;
             invocation = i;
-            task = w.text;
+            task = w.definition;
             owner_at = at;
             mode_at = is;
             invocation_at = it;

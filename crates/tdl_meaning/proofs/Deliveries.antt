@@ -5,7 +5,8 @@ use Rattle.std.proofs.lemmas.List.{map-append, map-id}
 use Rattle.tdl_trace.specs.Shown.{Shown}
 use Rattle.tdl_image.specs.declared.stub.Receive.{Receive}
 use Rattle.tdl_image.specs.declared.stub.Stub.{Stub}
-use Rattle.tdl_verify.specs.States.{EntryNow, StubNow, Part, NodeNow, Times, Sensed}
+use Rattle.tdl_base.specs.Sensed.{Sensed}
+use Rattle.tdl_verify.specs.States.{EntryNow, StubNow, Part, NodeNow, Times}
 use Rattle.tdl_verify.specs.Turns.{Spot, Turned, turn}
 use Rattle.tdl_verify.specs.Bus.{Flight, entries_received, part_received, node_received}
 use Rattle.tdl_verify.specs.Runs.{Lost, Turns, landed, and_turn, all_turns}
@@ -41,7 +42,7 @@ map-same f g h (q ∷ qs) = ap₂ (λ a b. a ∷ b) (h q) (map-same f g h qs)
 map-left : (f : Part → Part) → ((q : Part) → f q ≡ q) → (qs : List Part) → map f qs ≡ qs
 map-left f h qs = map-same f (λ q. q) h qs ∙ map-id qs
 
--- the parts of all nodes behind a frame
+-- the parts of all nodes after a frame
 received-parts : (x : ℕ) (f : Flight) (nodes : List NodeNow) →
     all_parts (map (node_received x f.frame) nodes) ≡ map (part_received x f.frame) (all_parts nodes)
 unfolding all_parts
@@ -49,7 +50,7 @@ received-parts x f [] = refl
 received-parts x f (n ∷ more) = ap (λ l. map (part_received x f.frame) n.parts ++ l) (received-parts x f more)
     ∙ sym (map-append (part_received x f.frame) n.parts (all_parts more))
 
--- a stub behind a frame that arrives or not, is lost or not, and is of its module or not
+-- a stub after a frame that arrives or not, is lost or not, and is of its module or not
 abbrev stub_by : (lands is_lost its : Bool) → ℕ → Flight → Stub → StubNow → Part
 stub_by lands is_lost its x f q t =
     Part.Outside q
@@ -105,14 +106,14 @@ landed-parts x lost (Some f) nodes = by_test (f.until == x) refl (lost f.number 
 -- ---- turns
 
 module _ (x : ℕ) (sensed : Sensed) (times : Times) (R : Part → Part → Type 0) where
-  -- the turn of a node ends, and R joins each part before it to the part behind it
+  -- the turn of a node ends, and R joins each part before it to the part after it
   pub record NodeStep (node : ℕ) (n : NodeNow) : Type 0 where
     pub parts : List Part
     pub rows : List Shown
     pub is : turn n.declared x node sensed times Spot.Between n.parts [] ≡ Turned.Finished parts rows
     pub stepped : Zip R n.parts parts
 
-  -- the turns of the nodes from number k on end, and R joins each part before them to the part behind them
+  -- the turns of the nodes from number k on end, and R joins each part before them to the part after them
   pub record AllSteps (k : ℕ) (nodes : List NodeNow) : Type 0 where
     pub after : List NodeNow
     pub rows : List Shown

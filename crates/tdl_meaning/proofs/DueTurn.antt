@@ -13,18 +13,19 @@ use Rattle.tdl_mode.specs.Phases.{phase_one, phase_two, phase_four}
 use Rattle.tdl_mode.specs.Instants.{alone}
 use Rattle.tdl_deploy.specs.Placed.{hosts}
 use Rattle.tdl_image.specs.declared.hosted.Hosted.{Hosted}
-use Rattle.tdl_verify.specs.States.{TaskNow, HostNow, Part, Times, Sensed}
+use Rattle.tdl_base.specs.Sensed.{Sensed}
+use Rattle.tdl_verify.specs.States.{TaskNow, HostNow, Part, Times}
 use Rattle.tdl_gen.specs.BlockNames.{BlockName, block_number}
 use Rattle.tdl_gen.specs.Blocks.{mode_block, switches_at}
 use Rattle.tdl_gen.specs.Counts.{greatest, length_of, before_starts, at_offsets, has_ends}
 use Rattle.tdl_gen.specs.Tables.{hosted_of}
 use Rattle.tdl_mode.specs.WellFormed.{WellModule}
-use Rattle.tdl_meaning.proofs.HostFacts.{covers_of, TaskPairs, TaskPair, WellLets, pairs_outputs, pairs_length, HostFacts, HostAfter, worst_of}
+use Rattle.tdl_meaning.proofs.HostFacts.{WellLets, pairs_outputs, pairs_length}
 use Rattle.tdl_gen.proofs.UpdateBlocks.{all_rows}
 use Rattle.tdl_verify.specs.Turns.{due_of, phase_of}
 use Rattle.tdl_gen.proofs.BlockPlaces.{ends_found}
 use Rattle.tdl_verify.proofs.EndBlocks.{ended_tasks}
-use Rattle.tdl_meaning.proofs.PhasesAtOffset.{Stands, ends_here, ends_pairs}
+use Rattle.tdl_meaning.proofs.PhasesAtOffset.{AtOffset, ends_here, ends_pairs}
 use Rattle.tdl_gen.proofs.HostBlocks.{after_switches, rows_of_switches}
 use Rattle.tdl_meaning.proofs.HostTables.{has_updates, has_guards}
 use Rattle.tdl_meaning.proofs.ActRows.{updated-is, act_rows-are}
@@ -41,6 +42,8 @@ use Rattle.tdl_meaning.proofs.HostTurns.{outputs-map, HostTurn}
 use Rattle.tdl_deploy.specs.Rows.{module_mode_rows}
 use Rattle.tdl_meaning.proofs.PhaseThree.{Third, third}
 use Rattle.tdl_meaning.proofs.ItemPlaces.{found_at, item_at}
+use Rattle.tdl_deploy.specs.AtRelease.{worst_case_of}
+use Rattle.tdl_meaning.specs.HostInStep.{covers_of, TaskPairs, TaskPair, HostFacts, HostAfter}
 
 -- module kk of a node at instant x
 module _ (given : Accepted) (kk : ℕ) (m : Module) (wm : WellModule given.program kk m)
@@ -69,7 +72,7 @@ module _ (given : Accepted) (kk : ℕ) (m : Module) (wm : WellModule given.progr
     abbrev mode : Mode
     mode = f.facts.mode
 
-    -- its mode is in the text
+    -- its mode is in the definition
     abbrev at : slice_get m.modes k ≡ Some mode
     at = f.facts.at
 
@@ -94,20 +97,20 @@ module _ (given : Accepted) (kk : ℕ) (m : Module) (wm : WellModule given.progr
     second = phase_two x look first
 
     -- the module stands at this offset before phase 1
-    stands : Stands m k o x mode at r
-    stands = record { text = f.facts.text; mode' = refl; now = f.now }
+    stands : AtOffset m k o x mode at r
+    stands = record { definition = f.facts.definition; mode' = refl; now = f.now }
 
     -- and after phase 1
-    stands_first : Stands m k o x mode at first
-    stands_first = record { text = f.facts.text; mode' = refl; now = f.now }
+    stands_first : AtOffset m k o x mode at first
+    stands_first = record { definition = f.facts.definition; mode' = refl; now = f.now }
 
     -- the invocations of its mode are apart and have their time
-    lets : WellLets mode covers (worst_of m)
+    lets : WellLets mode covers (worst_case_of m)
     lets = lets_of given.program kk m k mode covers (wm.modes k mode at) (covered k mode at)
 
     -- its tasks on the node after phase 1
     abbrev ended_now : List TaskNow
-    ended_now = ended_tasks (ends_here m k o x mode at covers (worst_of m)) 0 s.tasks
+    ended_now = ended_tasks (ends_here m k o x mode at covers (worst_case_of m)) 0 s.tasks
 
     -- its state on the node after phase 1
     abbrev ended : HostNow
@@ -118,27 +121,27 @@ module _ (given : Accepted) (kk : ℕ) (m : Module) (wm : WellModule given.progr
     updated = after_updates x node sensed times h m refl k o mode at off seen first.tasks ended
 
     -- its tasks are in step after phase 1
-    pairs : TaskPairs k mode covers (worst_of m) (suc o) o 0 first.tasks ended_now
-    pairs = ends_pairs m k o x mode at covers (worst_of m) r stands lets 0 r.tasks s.tasks f.facts.tasks
+    pairs : TaskPairs k mode covers (worst_case_of m) (suc o) o 0 first.tasks ended_now
+    pairs = ends_pairs m k o x mode at covers (worst_case_of m) r stands lets 0 r.tasks s.tasks f.facts.tasks
 
     -- so their outputs are the same
     same : map (λ (w : TaskNow). w.outputs) ended_now ≡ map (λ (u : TaskState). u.outputs) first.tasks
-    same = pairs_outputs (λ t u w. TaskPair k mode covers (worst_of m) t (suc o) o u w) 0 first.tasks ended_now
+    same = pairs_outputs (λ t u w. TaskPair k mode covers (worst_case_of m) t (suc o) o u w) 0 first.tasks ended_now
         (λ n u w a. a.outputs) pairs
 
-    -- it has as many tasks as its text
+    -- it has as many tasks as its definition
     task_count : length m.tasks ≡ length s.tasks
-    task_count = sym (ap length f.facts.texts) ∙ length-map r.tasks (λ (u : TaskState). u.text)
-        ∙ pairs_length (λ t u w. TaskPair k mode covers (worst_of m) t o o u w) 0 r.tasks s.tasks f.facts.tasks
+    task_count = sym (ap length f.facts.definitions) ∙ length-map r.tasks (λ (u : TaskState). u.definition)
+        ∙ pairs_length (λ t u w. TaskPair k mode covers (worst_case_of m) t o o u w) 0 r.tasks s.tasks f.facts.tasks
 
-    -- it has as many actuators as its text
+    -- it has as many actuators as its definition
     actuator_count : length m.actuators ≡ length s.actuators
     actuator_count = sym f.facts.sizes ∙ sym (ap length f.facts.actuators)
 
     -- phase 1: the jobs that end here
     abbrev move_one : Move x node sensed times 1 Any
     move_one = ends_move x node sensed times h m refl k o mode at off f.facts.above Any (λ front back fit q e. tt) s x
-        refl task_count (none_ready m k o x mode at covers (worst_of m) lets 0 r.tasks s.tasks f.facts.tasks)
+        refl task_count (none_ready m k o x mode at covers (worst_case_of m) lets 0 r.tasks s.tasks f.facts.tasks)
 
     -- an instant that is now
     no_later : x + 0 ≡ x
@@ -157,12 +160,12 @@ module _ (given : Accepted) (kk : ℕ) (m : Module) (wm : WellModule given.progr
     target v e =
         let a = found_at (λ w. holds w.guard look) (λ w. w.at.0 == o) mode.switches v e in
         let t = item_at m.modes v.target.0 ((wm.modes k mode at).switches a.place v a.at).target in
-        record { mode'' = t.item; at = t.at; lasts = (wm.modes v.target.0 t.item t.at).lasts }
+        record { mode = t.item; at = t.at; lasts = (wm.modes v.target.0 t.item t.at).lasts }
 
     -- phase 3: the switches and the end of the cycle
     abbrev move_three : Move x node sensed times 3 (Sees seen ns)
     move_three = switches_move x node sensed times h m refl k o mode at off f.facts.above seen ns apart first.tasks
-        updated (x + 0) no_later (record { mode'' = mode; at = at; lasts = (wm.modes k mode at).lasts }) f.facts.within
+        updated (x + 0) no_later (record { mode = mode; at = at; lasts = (wm.modes k mode at).lasts }) f.facts.within
         same target
         (λ front back. has_guards given kk m k mode at (wm.modes k mode at) x node sensed times look o
         (block_number m (BlockName.Switches k o)) front back)
@@ -242,7 +245,8 @@ module _ (given : Accepted) (kk : ℕ) (m : Module) (wm : WellModule given.progr
                 (subst (λ ts. HostAfter m h x (phase_four x (look_of kk ts sensed seen) led.state) fourth.next)
                 led.tasks fourth.after),
           );
-          shows_one = ended_rows-are given.program given.placement node x m k o mode at covers (worst_of m) kk hosted r
+          shows_one =
+              ended_rows-are given.program given.placement node x m k o mode at covers (worst_case_of m) kk hosted r
               stands lets 0 r.tasks s.tasks f.facts.tasks;
           shows_two = ap (λ vs. all_rows x node sensed times h (block_number m (BlockName.Updates k o)) [] [] m k look
               (λ a. filter (λ u. u.actuator == a && u.at.0 == o) mode.updates) 0 vs) f.facts.actuators

@@ -14,9 +14,10 @@ use Rattle.tdl_deploy.specs.Placed.{is_remote}
 use Rattle.tdl_image.specs.declared.stub.Receive.{Receive}
 use Rattle.tdl_gen.specs.Tables.{bus_end, receives_in, receives}
 use Rattle.tdl_base.proofs.ListPlaces.{In}
-use Rattle.tdl_meaning.proofs.EntryOrder.{Ascending, ascending-from, ascending-distinct, ascending-append, to-joined, renumber, ascending-renumbered, renumbered-append, unnumbered, numbered-at}
+use Rattle.tdl_meaning.proofs.EntryOrder.{Ascending, ascending-from, ascending-distinct, ascending-append, renumber, ascending-renumbered, renumbered-append, unnumbered}
 use Rattle.tdl_meaning.proofs.StubRows.{Segment, Grouped}
 use Rattle.tdl_meaning.specs.Accepted.{Accepted}
+use Rattle.tdl_meaning.proofs.ItemPlaces.{in-joined-at, numbered-at}
 
 module _ (s : Schedule) (kk t : ℕ) where
   -- the entry of an invocation, not yet numbered
@@ -85,8 +86,8 @@ module _ (s : Schedule) (kk t : ℕ) where
       slice_get mode.invocations n ≡ Some i → i.task.0 ≡ t →
       In (entry_of (0 + k) (1 + n) i) (joined (numbered 0 (receives_in s kk t) modes))
   has-entry modes k n mode i km ni task =
-      to-joined (receives_in s kk t) 0 modes k mode (entry_of (0 + k) (1 + n) i) km
-      (to-joined (listed (0 + k)) 1 mode.invocations n i (entry_of (0 + k) (1 + n) i) ni
+      in-joined-at (receives_in s kk t) 0 modes k mode (entry_of (0 + k) (1 + n) i) km
+      (in-joined-at (listed (0 + k)) 1 mode.invocations n i (entry_of (0 + k) (1 + n) i) ni
       (subst (λ b. In (entry_of (0 + k) (1 + n) i) (if b then entry_of (0 + k) (1 + n) i ∷ [] else []))
       (sym (eq-eqb i.task.0 t task)) (record { place = 0; at = refl })))
 
@@ -136,7 +137,7 @@ module _ (given : Accepted) (kk : ℕ) (m : Module)
               let h = has-entry given.schedule kk n m.modes k q mode i km qi task' in
               let z : 0 + k ≡ k = omega arith in
               let y : 1 + q ≡ suc q = omega arith in
-              (h.place, _, numbered-at r (entries_of n) h.place _ h.at, z, y)
+              (h.place, _, numbered-at renumber r (entries_of n) h.place _ h.at, z, y)
 
       by_public : (b : Bool) → task.public ≡ b → Goal (by_task n task)
       by_public true f = subst (λ b. Goal (if b then entries_of n else [])) (sym (seen task f)) (full f)

@@ -1,13 +1,12 @@
 -- The receive entries of a stub through delivery and turn: what arrives is there, or its commit is gone.
-use Rattle.std.proofs.Common.{◌≡◌, ℕ, suc, ◌+◌, ◌<◌, ◌≤◌, ℤ, List, [], ◌∷◌, Bool, true, false, ◌==◌, Option, Some, None, refl, ap, sym, ◌∙◌, subst, inl, inr, arith}
+use Rattle.std.proofs.Common.{◌≡◌, ℕ, suc, ◌+◌, ◌<◌, ℤ, List, [], ◌∷◌, Bool, true, false, ◌==◌, Option, Some, None, refl, ap, sym, ◌∙◌, subst, inl, inr, arith}
 use Rattle.std.specs.Prelude.{◌⊎◌, slice_get, if◌then◌else◌}
 use Rattle.std.proofs.lemmas.Bool.{eqb-true, eq-eqb, ne_eqb}
 use Rattle.std.proofs.lemmas.Bool.Decides.{nat_tests}
 use Rattle.tdl_base.specs.declared.numbers.PortKey.{PortKey}
 use Rattle.tdl_mode.specs.declared.program.Module.{Module}
-use Rattle.tdl_mode.specs.declared.program.Mode.{Mode}
-use Rattle.tdl_mode.specs.declared.program.Invocation.{Invocation}
-use Rattle.tdl_mode.specs.States.{Job, ModuleState, Sensed, invocation_of}
+use Rattle.tdl_base.specs.Sensed.{Sensed}
+use Rattle.tdl_mode.specs.States.{Job, ModuleState, invocation_of}
 use Rattle.tdl_mode.specs.Instants.{alone}
 use Rattle.tdl_frame.specs.Frames.{Frame}
 use Rattle.tdl_image.specs.declared.hosted.ImageWindow.{ImageWindow}
@@ -17,11 +16,14 @@ use Rattle.tdl_verify.specs.Turns.{is_at}
 use Rattle.tdl_verify.specs.Bus.{Flight, received}
 use Rattle.tdl_verify.specs.Runs.{Lost}
 use Rattle.tdl_gen.proofs.StubMoves.{freed, left_at}
-use Rattle.tdl_meaning.proofs.TakeCounts.{OfMode}
-use Rattle.tdl_meaning.proofs.ActiveJobs.{WellModes, Standing, ActiveJob, end_of, was_active}
-use Rattle.tdl_meaning.proofs.EntryFacts.{EntryFact, Got, at_is}
-use Rattle.tdl_meaning.proofs.EntryLists.{AllEntries}
-use Rattle.tdl_meaning.proofs.FramesOnBus.{Carries, WellReceive, is_for_entry, for_entry, received-is, got_by, entry_arrives, got_arrives}
+use Rattle.tdl_gen.specs.Takes.{OfMode}
+use Rattle.tdl_meaning.proofs.ActiveJobs.{WellModes, Standing, was_active}
+use Rattle.tdl_meaning.proofs.EntryFacts.{at_is}
+use Rattle.tdl_meaning.proofs.FramesOnBus.{is_for_entry, for_entry, received-is, got_by, entry_arrives, got_arrives}
+use Rattle.tdl_meaning.specs.Entries.{job_end, EntryFact, Got}
+use Rattle.tdl_meaning.specs.AllItems.{AllEntries}
+use Rattle.tdl_meaning.specs.BusFrames.{Carries, Flies, UnderWay, Loses}
+use Rattle.tdl_meaning.specs.BusTables.{WellReceive, Sender}
 
 -- the entries that are due are of the mode that the module was in before x
 pub of_mode : (m : Module) (x : ℕ) (r : ModuleState) (es : List Receive) (nows : List EntryNow) →
@@ -33,29 +35,9 @@ of_mode m x r (e ∷ es) (now ∷ more) ps = ((λ due. (ps.0 x (at_is x now.due 
 
 -- ---- delivery
 
--- the flight f carries the frame of one of the bus windows of module kk
-pub record Flies (m : Module) (kk : ℕ) (ws : List ImageWindow) (x : ℕ) (r : ModuleState) (f : Flight) : Type 0 where
-  pub place : ℕ
-  pub window : ImageWindow
-  pub at : slice_get ws place ≡ Some window
-  pub bus : window.bus ≡ true
-  pub carries : Carries m kk x r window f
-
 -- a flight of module kk carries the frame of one of its bus windows
 abbrev pub FlightOf : Module → ℕ → List ImageWindow → ℕ → ModuleState → Option Flight → Type 0
 FlightOf m kk ws x r flight = (f : Flight) → flight ≡ Some f → f.frame.owner ≡ kk → Flies m kk ws x r f
-
--- the frame of bus window w of module kk is on the bus
-pub record Under (m : Module) (kk : ℕ) (x : ℕ) (r : ModuleState) (w : ImageWindow) (flight : Option Flight) :
-    Type 0 where
-  pub frame : Flight
-  pub is : flight ≡ Some frame
-  pub carries : Carries m kk x r w frame
-
--- each bus window of module kk that is under way before x has its frame on the bus
-abbrev pub UnderWay : Module → ℕ → List ImageWindow → ℕ → ModuleState → Option Flight → Type 0
-UnderWay m kk ws x r flight = (n : ℕ) (w : ImageWindow) → slice_get ws n ≡ Some w → w.bus ≡ true → w.mode ≡ r.mode →
-    r.base + w.offset < x → x ≤ r.base + w.offset + w.length → Under m kk x r w flight
 
 -- an entry after a frame that arrives or not, is lost or not, and is of its module or not
 abbrev pub landed_by : (lands is_lost its : Bool) → ℕ → Flight → Receive → EntryNow → EntryNow
@@ -67,25 +49,6 @@ abbrev pub entry_landed : ℕ → Lost → ℕ → Option Flight → Receive →
 entry_landed x lost kk None e now = now
 entry_landed x lost kk (Some f) e now =
     landed_by (f.until == x) (lost f.number f.sent_at f.until) (kk == f.frame.owner) x f e now
-
--- a frame of module kk that is lost where it arrives takes the commit of its job
-abbrev pub Loses : Lost → (ℕ → Type 0) → Module → ℕ → ℕ → ModuleState → Option Flight → Type 0
-Loses lost gone m kk x r flight =
-    (f : Flight) (w : ImageWindow) (t : ℕ) (a : ActiveJob m x r t) → flight ≡ Some f → f.until ≡ x →
-    lost f.number f.sent_at f.until ≡ true → Carries m kk x r w f → a.job.invocation ≡ w.invocation →
-    gone (end_of m x r t a)
-
--- the bus window of an entry: it lasts, and begins behind its invocation's start
-pub record Sender (m : Module) (ws : List ImageWindow) (e : Receive) : Type 0 where
-  pub place : ℕ
-  pub window : ImageWindow
-  pub at : slice_get ws place ≡ Some window
-  pub bus : window.bus ≡ true
-  pub mode' : window.mode ≡ e.mode
-  pub invocation : window.invocation ≡ e.invocation
-  pub lasts : 0 < window.length
-  pub begins : (mode : Mode) (i : Invocation) → slice_get m.modes e.mode ≡ Some mode →
-      invocation_of mode.invocations e.invocation ≡ Some i → i.s.0 < window.offset
 
 -- below the next number is below or equal
 below_or_equal : (a b : ℕ) → a < suc b → (a < b) ⊎ (a ≡ b)
@@ -119,20 +82,20 @@ module _ (m : Module) (kk : ℕ) (ws : List ImageWindow) (x : ℕ) (r : ModuleSt
       by_flight (Some f) is =
           by_tests f is (f.until == x) (lost f.number f.sent_at f.until) (kk == f.frame.owner) refl refl
 
-  -- behind the delivery at x what arrives at x is there too, or the commit is gone
+  -- after the delivery at x what arrives at x is there too, or the commit is gone
   pub landed_got : (gone : ℕ → Type 0) → UnderWay m kk ws x r flight → Loses lost gone m kk x r flight → (e : Receive) →
       WellReceive m ws e → Sender m ws e → (now : EntryNow) →
       Got gone m x x r e now → Got gone m (suc x) x r e (entry_landed x lost kk flight e now)
   landed_got gone under loses e well sender now got a mode named late =
-      by_time (below_or_equal (end_of m x r e.task a) (x + e.delta) (omega (arith, late)))
+      by_time (below_or_equal (job_end m x r e.task a) (x + e.delta) (omega (arith, late)))
     where
       -- the trigger stands at the job's end
       Stands : EntryNow → Type 0
-      Stands n = n.due ≡ Some (end_of m x r e.task a)
+      Stands n = n.due ≡ Some (job_end m x r e.task a)
 
       -- it does, or the commit is gone
       Goal : EntryNow → Type 0
-      Goal n = Stands n ⊎ gone (end_of m x r e.task a)
+      Goal n = Stands n ⊎ gone (job_end m x r e.task a)
 
       -- a frame that arrives leaves the trigger, or sets the same
       rewritten : (f : Flight) → Flies m kk ws x r f → f.until ≡ x → Stands now → Stands (received x f.frame e now)
@@ -165,7 +128,7 @@ module _ (m : Module) (kk : ℕ) (ws : List ImageWindow) (x : ℕ) (r : ModuleSt
               rewritten f (flies f is (sym (eqb-true kk f.frame.owner owner))) (eqb-true f.until x until) old
 
       -- where its frame arrives now
-      arrives : end_of m x r e.task a ≡ x + e.delta → Goal (entry_landed x lost kk flight e now)
+      arrives : job_end m x r e.task a ≡ x + e.delta → Goal (entry_landed x lost kk flight e now)
       arrives end =
           let w : ImageWindow = sender.window in
           let mode_at : slice_get m.modes e.mode ≡ Some a.mode = ap (λ j. slice_get m.modes j) mode ∙ a.mode_at in
@@ -194,7 +157,7 @@ module _ (m : Module) (kk : ℕ) (ws : List ImageWindow) (x : ℕ) (r : ModuleSt
               inl (rw (t, there, owner) (got_arrives m ws x r kk sender.window sender.place f sender.at sender.bus
               c lands e well now sender.mode' sender.invocation a named))
 
-      by_time : (end_of m x r e.task a < x + e.delta) ⊎ (end_of m x r e.task a ≡ x + e.delta) →
+      by_time : (job_end m x r e.task a < x + e.delta) ⊎ (job_end m x r e.task a ≡ x + e.delta) →
           Goal (entry_landed x lost kk flight e now)
       by_time (inl lt) = before (got a mode named lt)
         where
@@ -205,7 +168,7 @@ module _ (m : Module) (kk : ℕ) (ws : List ImageWindow) (x : ℕ) (r : ModuleSt
 
 module _ (m : Module) (well : WellModes m) (x : ℕ) (r : ModuleState) (stood : Standing m x r) (kk : ℕ) (sensed : Sensed)
     (seen : PortKey → ℤ) (ws : List ImageWindow) where
-  -- behind the turn what has arrived is there too, or its commit is gone
+  -- after the turn what has arrived is there too, or its commit is gone
   pub got_kept : (gone : ℕ → Type 0) (e : Receive) → WellReceive m ws e → Sender m ws e → (now : EntryNow) →
       Got gone m (suc x) x r e now → Got gone m (suc x) (suc x) (alone kk x sensed seen r) e (left_at x now)
   got_kept gone e well_e sender now got a' mode named late =
@@ -225,10 +188,10 @@ module _ (m : Module) (well : WellModes m) (x : ℕ) (r : ModuleState) (stood : 
       not_now : (o : Option ℕ) (at : ℕ) → o ≡ Some at → x < at → is_at x o ≡ false
       not_now o at e lt = ap (is_at x) e ∙ ne_eqb at x (λ q. omega (arith, q, lt))
 
-      by_old : (end : ℕ) → end_of m (suc x) (alone kk x sensed seen r) e.task a' ≡ end →
-          x < end_of m (suc x) (alone kk x sensed seen r) e.task a' → (now.due ≡ Some end) ⊎ gone end →
-          ((left_at x now).due ≡ Some (end_of m (suc x) (alone kk x sensed seen r) e.task a'))
-          ⊎ gone (end_of m (suc x) (alone kk x sensed seen r) e.task a')
+      by_old : (end : ℕ) → job_end m (suc x) (alone kk x sensed seen r) e.task a' ≡ end →
+          x < job_end m (suc x) (alone kk x sensed seen r) e.task a' → (now.due ≡ Some end) ⊎ gone end →
+          ((left_at x now).due ≡ Some (job_end m (suc x) (alone kk x sensed seen r) e.task a'))
+          ⊎ gone (job_end m (suc x) (alone kk x sensed seen r) e.task a')
       by_old end same lt (inl due) = inl (ap (λ b. (if b then freed now else now).due)
           (not_now now.due end due (omega (arith, lt, same))) ∙ due ∙ ap Some (sym same))
       by_old end same lt (inr g) = inr (subst gone (sym same) g)

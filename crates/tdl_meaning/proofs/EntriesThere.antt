@@ -12,13 +12,13 @@ use Rattle.tdl_image.specs.declared.stub.StubTask.{StubTask}
 use Rattle.tdl_image.specs.declared.stub.Receive.{Receive}
 use Rattle.tdl_gen.specs.Tables.{initials, stub_tasks, stub_of, receives}
 use Rattle.tdl_base.proofs.Finding.{any-passing}
-use Rattle.tdl_base.proofs.ListPlaces.{In, in-front, in-behind}
+use Rattle.tdl_base.proofs.ListPlaces.{In, in-front, in-back}
 use Rattle.tdl_verify.proofs.Replaced.{is_numbered}
-use Rattle.tdl_meaning.proofs.StubsInStep.{AllReceived}
 use Rattle.tdl_meaning.proofs.StubRows.{Grouped}
 use Rattle.tdl_gen.proofs.EntryTables.{in-joined, if_in}
 use Rattle.tdl_meaning.proofs.EntriesByTask.{grouped}
 use Rattle.tdl_meaning.specs.Accepted.{Accepted}
+use Rattle.tdl_meaning.specs.BusTables.{AllReceived}
 
 -- an entry for invocation q of mode k, of task t, is among these
 record EntryAmong (es : List Receive) (k q t : ℕ) : Type 0 where
@@ -50,7 +50,7 @@ entry-among m n (c ∷ ts) es g (suc t) task at public k q mode i km qi it =
     let r = entry-among m (suc n) ts g.back g.more t task at public k q mode i km qi (it ∙ z) in
     record {
       entry = r.entry;
-      within = subst (In r.entry) (sym g.is) (in-behind r.entry g.front g.back r.within);
+      within = subst (In r.entry) (sym g.is) (in-back r.entry g.front g.back r.within);
       mode' = r.mode';
       invocation = r.invocation;
       task = r.task ∙ sym z;

@@ -1,35 +1,19 @@
 -- A receive entry's trigger is the end of its active job, and its copy what comes of it.
-use Rattle.std.proofs.Common.{◌≡◌, ℕ, suc, ◌+◌, ◌<◌, ◌≤◌, ℤ, Bool, true, false, Option, Some, None, refl, ap, sym, ◌∙◌, arith}
-use Rattle.std.specs.Prelude.{◌⊎◌, slice_get, if◌then◌else◌}
+use Rattle.std.proofs.Common.{◌≡◌, ℕ, suc, ◌<◌, ◌≤◌, ℤ, Bool, true, false, Option, Some, None, refl, ap, sym, ◌∙◌, arith}
+use Rattle.std.specs.Prelude.{slice_get, if◌then◌else◌}
 use Rattle.std.proofs.lemmas.Bool.{eqb-true, eq-eqb}
 use Rattle.tdl_base.specs.declared.numbers.PortKey.{PortKey}
 use Rattle.tdl_mode.specs.declared.program.Module.{Module}
-use Rattle.tdl_mode.specs.States.{Job, TaskState, ModuleState, Sensed}
+use Rattle.tdl_base.specs.Sensed.{Sensed}
+use Rattle.tdl_mode.specs.States.{Job, TaskState, ModuleState}
 use Rattle.tdl_mode.specs.Phases.{phase_one, ended}
 use Rattle.tdl_mode.specs.Instants.{alone}
 use Rattle.tdl_image.specs.declared.stub.Receive.{Receive}
 use Rattle.tdl_verify.specs.States.{EntryNow}
 use Rattle.tdl_verify.specs.Turns.{is_at}
 use Rattle.tdl_gen.proofs.StubMoves.{freed, left_at}
-use Rattle.tdl_meaning.proofs.ActiveJobs.{WellModes, Standing, ActiveJob, end_of, made_by, stays, ends}
-
--- an entry that waits until instant `at`: the end of its invocation's active job, of which its copy is the result
-pub record Waits (m : Module) (x : ℕ) (r : ModuleState) (e : Receive) (now : EntryNow) (at : ℕ) : Type 0 where
-  pub job : ActiveJob m x r e.task
-  pub mode' : e.mode ≡ r.mode
-  pub invocation : e.invocation ≡ job.job.invocation
-  pub when : at ≡ end_of m x r e.task job
-  pub copy : now.copy ≡ made_by m x r e.task job
-
--- an entry with a trigger waits until it
-abbrev pub EntryFact : Module → ℕ → ModuleState → Receive → EntryNow → Type 0
-EntryFact m x r e now = (at : ℕ) → now.due ≡ Some at → Waits m x r e now at
-
--- the converse: where the entry's job is active and its frame has arrived below instant y, the trigger stands at the
--- job's end, or the commit is gone
-abbrev pub Got : (ℕ → Type 0) → Module → (y x : ℕ) → ModuleState → Receive → EntryNow → Type 0
-Got gone m y x r e now = (a : ActiveJob m x r e.task) → e.mode ≡ r.mode → e.invocation ≡ a.job.invocation →
-    end_of m x r e.task a < y + e.delta → (now.due ≡ Some (end_of m x r e.task a)) ⊎ gone (end_of m x r e.task a)
+use Rattle.tdl_meaning.proofs.ActiveJobs.{WellModes, Standing, stays, ends}
+use Rattle.tdl_meaning.specs.Entries.{ActiveJob, job_end, Waits, EntryFact}
 
 -- a trigger that stands at x is x
 pub at_is : (x : ℕ) (due : Option ℕ) → is_at x due ≡ true → due ≡ Some x
@@ -45,7 +29,7 @@ module _ (m : Module) (well : WellModes m) (x : ℕ) (r : ModuleState) (stood : 
     pub there : slice_get (phase_one x r).tasks e.task ≡ Some state
     pub copy : state.outputs ≡ now.copy
     pub job : ActiveJob m x r e.task
-    pub end : end_of m x r e.task job ≡ x
+    pub end : job_end m x r e.task job ≡ x
 
   -- an entry that is due takes the commit of a job that ends at x
   pub takes_commit : (e : Receive) (now : EntryNow) → EntryFact m x r e now → is_at x now.due ≡ true → Taken e now
@@ -60,7 +44,7 @@ module _ (m : Module) (well : WellModes m) (x : ℕ) (r : ModuleState) (stood : 
         end = sym w.when;
       }
 
-  -- behind the turn each entry keeps its fact
+  -- after the turn each entry keeps its fact
   pub entry_kept : (e : Receive) (now : EntryNow) → EntryFact m x r e now →
       EntryFact m (suc x) (alone kk x sensed seen r) e (left_at x now)
   entry_kept e now fact at due = by_test (is_at x now.due) refl due
@@ -77,7 +61,7 @@ module _ (m : Module) (well : WellModes m) (x : ℕ) (r : ModuleState) (stood : 
           let open' = w.job.open' in
           let when = w.when in
           let s = stays m well x r stood kk sensed seen e.task w.job
-          (later x (end_of m x r e.task w.job) open' (λ q'. other now.due due q (when ∙ sym q'))) in
+          (later x (job_end m x r e.task w.job) open' (λ q'. other now.due due q (when ∙ sym q'))) in
           record {
             job = s.next;
             mode' = w.mode' ∙ sym s.mode';

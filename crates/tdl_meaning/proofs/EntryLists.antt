@@ -4,12 +4,9 @@ use Rattle.std.specs.Prelude.{slice_get}
 use Rattle.tdl_image.specs.declared.stub.Receive.{Receive}
 use Rattle.tdl_verify.specs.States.{EntryNow}
 use Rattle.tdl_verify.specs.Bus.{Flight, received, entries_received}
-use Rattle.tdl_base.proofs.SideBySide.{Zip, zip-right}
+use Rattle.tdl_base.proofs.SideBySide.{zip-right}
 use Rattle.tdl_gen.proofs.StubMoves.{left_at}
-
--- something holds of each entry and its state, and there are as many of both
-abbrev pub AllEntries : (Receive → EntryNow → Type 0) → List Receive → List EntryNow → Type 0
-AllEntries P es nows = Zip P es nows
+use Rattle.tdl_meaning.specs.AllItems.{AllEntries}
 
 -- each entry's state changed by itself
 abbrev pub each_entry : (Receive → EntryNow → EntryNow) → List Receive → List EntryNow → List EntryNow

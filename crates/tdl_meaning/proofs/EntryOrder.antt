@@ -1,10 +1,10 @@
 -- Receive entries in ascending order of mode and invocation, and numbered anew.
-use Rattle.std.proofs.Common.{◌≡◌, ℕ, zero, suc, ◌+◌, ◌<◌, ◌≤◌, List, [], ◌∷◌, ◌++◌, length, Some, refl, ap, ap₂, sym, ◌∙◌, subst, inl, inr, arith}
+use Rattle.std.proofs.Common.{◌≡◌, ℕ, zero, suc, ◌+◌, ◌<◌, ◌≤◌, List, [], ◌∷◌, ◌++◌, length, Some, refl, ap, sym, ◌∙◌, subst, inl, inr, arith}
 use Rattle.std.specs.Prelude.{◌⊎◌, slice_get}
 use Rattle.std.proofs.lemmas.Option.{same_Some}
-use Rattle.tdl_base.specs.Lists.{numbered, joined}
+use Rattle.tdl_base.specs.Lists.{numbered}
 use Rattle.tdl_image.specs.declared.stub.Receive.{Receive}
-use Rattle.tdl_base.proofs.ListPlaces.{In, in-front, in-behind}
+use Rattle.tdl_base.proofs.ListPlaces.{In}
 
 -- an entry of mode k from invocation n on, or of a later mode
 abbrev Later : ℕ → ℕ → Receive → Type 0
@@ -71,19 +71,6 @@ ascending-append k n k' n' [] ys s a below b = ascending-from k n k' n' ys s b
 ascending-append k n k' n' (e ∷ xs) ys s a below b =
     (a.0, ascending-append e.mode (suc e.invocation) k' n' xs ys (below 0 e refl) a.1 (λ j d at. below (suc j) d at) b)
 
--- what stands in an item's list stands in the joined lists
-pub to-joined : {A B : Type 0} (f : ℕ → A → List B) (n : ℕ) (xs : List A) (k : ℕ) (x : A) (b : B) →
-    slice_get xs k ≡ Some x → In b (f (n + k) x) → In b (joined (numbered n f xs))
-to-joined f n [] k x b at i = absurd (cc at)
-to-joined f n (y ∷ xs) zero x b at i =
-    let z : n + 0 ≡ n = omega arith in
-    in-front b (f n y) (joined (numbered (suc n) f xs)) (subst (λ v. In b (f n v)) (sym (same_Some y x at))
-    (subst (λ k. In b (f k x)) z i))
-to-joined f n (y ∷ xs) (suc k) x b at i =
-    let z : n + suc k ≡ suc n + k = omega arith in
-    in-behind b (f n y) (joined (numbered (suc n) f xs))
-    (to-joined f (suc n) xs k x b at (subst (λ k. In b (f k x)) z i))
-
 -- the entry with the block of this number
 abbrev pub renumber : ℕ → Receive → Receive
 renumber r e = record e { block = r }
@@ -132,14 +119,3 @@ unnumbered r (d ∷ es) (suc j) e at =
       invocation' = o.invocation';
       task' = o.task';
     }
-
--- each entry has a numbered one at its place
-pub numbered-at : (r : ℕ) (es : List Receive) (j : ℕ) (e : Receive) → slice_get es j ≡ Some e →
-    slice_get (numbered r renumber es) j ≡ Some (renumber (r + j) e)
-numbered-at r [] j e at = absurd (cc at)
-numbered-at r (d ∷ es) zero e at =
-    let z : r ≡ r + 0 = omega arith in
-    ap₂ (λ k e. Some (renumber k e)) z (same_Some d e at)
-numbered-at r (d ∷ es) (suc j) e at =
-    let z : suc r + j ≡ r + suc j = omega arith in
-    numbered-at (suc r) es j e at ∙ ap (λ k. Some (renumber k e)) z

@@ -1,11 +1,7 @@
 -- What holds of each item of a list.
 use Rattle.std.proofs.Common.{◌≡◌, ℕ, zero, suc, List, [], ◌∷◌, ◌++◌, Bool, true, false, Some, filter, refl, ap, subst}
 use Rattle.std.specs.Prelude.{slice_get, unwrap_or, if◌then◌else◌}
-
--- P holds of each item
-abbrev pub Every : {A : Type 0} → (A → Type 0) → List A → Type 0
-Every P [] = Unit {0}
-Every P (x ∷ xs) = P x × Every P xs
+use Rattle.tdl_meaning.specs.AllItems.{Every}
 
 -- what holds of all items holds of the one at a place
 pub all-at : {A : Type 0} (P : A → Type 0) (xs : List A) → Every P xs → (n : ℕ) (a : A) → slice_get xs n ≡ Some a → P a
@@ -31,10 +27,10 @@ of-front P [] ys h = tt
 of-front P (x ∷ xs) ys h = (h 0 x refl, of-front P xs ys (λ n. h (suc n)))
 
 -- and at each place of the second
-pub of-behind : {A : Type 0} (P : A → Type 0) (xs ys : List A) →
+pub of-back : {A : Type 0} (P : A → Type 0) (xs ys : List A) →
     ((n : ℕ) (a : A) → slice_get (xs ++ ys) n ≡ Some a → P a) → (n : ℕ) (a : A) → slice_get ys n ≡ Some a → P a
-of-behind P [] ys h = h
-of-behind P (x ∷ xs) ys h = of-behind P xs ys (λ n. h (suc n))
+of-back P [] ys h = h
+of-back P (x ∷ xs) ys h = of-back P xs ys (λ n. h (suc n))
 
 -- what holds of each item that passes holds of all that are left
 pub every-filtered : {A : Type 0} (P : A → Type 0) (p : A → Bool) (xs : List A) →

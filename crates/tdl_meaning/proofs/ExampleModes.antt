@@ -1,8 +1,8 @@
 -- A mode of one invocation, and of at most one update or switch besides, is well-formed where its parts are.
-use Rattle.std.proofs.Common.{◌≡◌, ℕ, zero, suc, ◌==◌, ◌+◌, ◌<◌, ◌≤◌, List, [], ◌∷◌, length, Bool, true, false, ◌||◌, ◌⊎◌, inl, inr, Some, refl, ap, sym, ◌∙◌, arith}
+use Rattle.std.proofs.Common.{nat_le, ◌≡◌, ℕ, zero, suc, ◌==◌, ◌+◌, ◌<◌, ◌≤◌, List, [], ◌∷◌, length, Bool, true, false, ◌||◌, ◌⊎◌, inl, inr, Some, refl, ap, sym, ◌∙◌, arith}
 use Rattle.std.specs.Prelude.{slice_get, unwrap_or}
 use Rattle.std.proofs.lemmas.Option.{slice_get_within}
-use Rattle.std.proofs.lemmas.Bool.{eqb-true}
+use Rattle.std.proofs.lemmas.Bool.{eqb-true, leb-false}
 use Rattle.std.proofs.Math.Bool.{or-false}
 use Rattle.tdl_mode.specs.declared.program.Program.{Program}
 use Rattle.tdl_mode.specs.declared.program.Module.{Module}
@@ -14,8 +14,10 @@ use Rattle.tdl_mode.specs.States.{invocation_of}
 use Rattle.tdl_mode.specs.Imports.{is_among}
 use Rattle.tdl_mode.specs.WellFormed.{WellInvocation, WellUpdate, WellSwitch, WellMode}
 use Rattle.tdl_meaning.proofs.ExamplePlaces.{Each, from_each, from_each_number}
+use Rattle.std.specs.List.{list_any}
+use Rattle.tdl_base.specs.declared.numbers.ModuleId.{ModuleId}
 
--- what is asked of such a mode; its switch is at the end of the period
+-- what is asked of such a mode
 pub record SmallMode (program : Program) (k : ℕ) (m : Module) (n : ℕ) (mode : Mode) : Type 0 where
   pub lasts : 0 < mode.period.0
   pub one_call : length mode.invocations ≤ 1
@@ -23,7 +25,8 @@ pub record SmallMode (program : Program) (k : ℕ) (m : Module) (n : ℕ) (mode 
   pub invocations : Each (λ q i. WellInvocation program k m mode i) mode.invocations
   pub updates : Each (λ q u. WellUpdate program k m mode u) mode.updates
   pub switches : Each (λ q w. WellSwitch program k m n mode w) mode.switches
-  pub at_end : Each (λ q (w : Switch). w.at.0 ≡ mode.period.0) mode.switches
+  pub closed : Each (λ q (w : Switch). Each (λ r (i : Invocation). i.s.0 < w.at.0 → w.at.0 < i.e.0 → ⊥)
+      mode.invocations) mode.switches
   pub calls_first : Each (λ q (i : Invocation). i.act ≡ 0) mode.invocations
   pub drivers_next : Each (λ q (u : Update). u.act ≡ 1) mode.updates
   pub turns_next : Each (λ q (w : Switch). w.act ≡ 1) mode.switches
@@ -50,6 +53,20 @@ same_number xs (suc q) (suc r) i j few at bt = ap (λ n. suc n) (same_place xs q
 pub one_import : (i j : ℕ) → is_among i (record { 0 = j } ∷ []) ≡ true → i ≡ j
 one_import i j e = sym (eqb-true j i (sym (or-false (j == i)) ∙ e))
 
+-- where no module of a list is of number k or higher, what is among them is lower
+pub among_lower : (k i : ℕ) (ms : List ModuleId) → list_any (λ (d : ModuleId). nat_le k d.0) ms ≡ false →
+    is_among i ms ≡ true → i < k
+among_lower k i [] none e = absurd (cc e)
+among_lower k i (d ∷ ms) none e = by_tests (among_lower k i ms) (nat_le k d.0) refl (d.0 == i) refl
+  where
+    by_tests : (list_any (λ (d : ModuleId). nat_le k d.0) ms ≡ false → is_among i ms ≡ true → i < k) → (a : Bool) →
+        nat_le k d.0 ≡ a → (b : Bool) → (d.0 == i) ≡ b → i < k
+    by_tests rest true high b q = absurd (cc (none, ap (λ c. c || list_any (λ (d : ModuleId). nat_le k d.0) ms) high))
+    by_tests rest false low true q = let lt = leb-false k d.0 low in let is = eqb-true d.0 i q in omega (arith, lt, is)
+    by_tests rest false low false q = rest
+        (sym (ap (λ c. c || list_any (λ (d : ModuleId). nat_le k d.0) ms) low) ∙ none)
+        (sym (ap (λ c. c || is_among i ms) q) ∙ e)
+
 -- what is among two modules is one of them
 pub one_of_two : (i j k : ℕ) → is_among i (record { 0 = j } ∷ record { 0 = k } ∷ []) ≡ true → (i ≡ j) ⊎ (i ≡ k)
 one_of_two i j k e = by_test (j == i) refl e
@@ -68,10 +85,10 @@ small_mode program k m n mode small = record {
   switches = from_each (λ q w. WellSwitch program k m n mode w) mode.switches small.switches;
   apart = λ q r i j at bt task before after. same_number mode.invocations q r i j small.one_call at bt;
   once = λ q r u v at bt actuator offset. same_place mode.updates q r u v few_updates at bt;
-  closed = λ q r w i at bt before after.
-      let is : w.at.0 ≡ mode.period.0 =
-      from_each (λ q (w : Switch). w.at.0 ≡ mode.period.0) mode.switches small.at_end q w at in
-      absurd (omega (arith, is, after, (invoked r i bt).ends));
+  closed = λ q r w i at bt.
+      from_each_number (λ r (i : Invocation). i.s.0 < w.at.0 → w.at.0 < i.e.0 → ⊥) mode.invocations
+      (from_each (λ q (w : Switch). Each (λ r (i : Invocation). i.s.0 < w.at.0 → w.at.0 < i.e.0 → ⊥) mode.invocations)
+      mode.switches small.closed q w at) r i bt;
   calls = λ q r i j at bt act.
       let same : i ≡ j = same_item mode.invocations q r i j small.one_call at bt in (
         ap (λ (a : Invocation). a.task.0) same,

@@ -1,5 +1,5 @@
 -- The schedule of the three modules passes its test.
-use Rattle.std.proofs.Common.{◌≡◌, ℕ, suc, ◌+◌, ◌<◌, ◌≤◌, length, true, false, Some, filter, refl, ap, sym, ◌∙◌, subst, arith}
+use Rattle.std.proofs.Common.{List, [], ◌∷◌, ◌≡◌, ℕ, suc, ◌+◌, ◌<◌, ◌≤◌, length, true, false, Some, filter, refl, ap, sym, ◌∙◌, subst, arith}
 use Rattle.std.specs.Prelude.{slice_get, unwrap_or, sum, map, if◌then◌else◌}
 use Rattle.tdl_mode.specs.declared.program.Module.{Module}
 use Rattle.tdl_mode.specs.declared.program.Mode.{Mode}
@@ -7,10 +7,9 @@ use Rattle.tdl_mode.specs.declared.program.Task.{Task}
 use Rattle.tdl_mode.specs.declared.program.Invocation.{Invocation}
 use Rattle.tdl_mode.specs.States.{invocation_of}
 use Rattle.tdl_deploy.specs.declared.schedule.Window.{Window}
-use Rattle.tdl_deploy.specs.declared.schedule.Resource.TheVariants.{Cpu, Bus}
 use Rattle.tdl_deploy.specs.Placed.{is_remote, duration_of}
 use Rattle.tdl_deploy.specs.Passes.{is_bus, is_cpu_of, is_bus_of, deadline, Invoked, Passes}
-use Rattle.tdl_meaning.specs.ExampleThree.{count_task, quick_mode, slow_mode, meter, gather_task, gathering_mode, panel, check_task, checking_mode, watch, three_modules, on_nodes, call_window, turns_taken}
+use Rattle.tdl_meaning.specs.ExampleThree.{count_task, quick_mode, slow_mode, meter, gather_task, gathering_mode, panel, check_task, checking_mode, watch, three_modules, on_nodes, turns_taken}
 use Rattle.tdl_meaning.proofs.ExamplePlaces.{◌▸◌, Each, from_each, from_each_number, from_each_two}
 use Rattle.tdl_meaning.proofs.ExampleWindows.{Disjoint, ApartOnNode, ApartOnBus, all_disjoint, all_apart_on_nodes, all_apart_on_bus}
 
@@ -113,7 +112,8 @@ abbrev checks : Invoked three_modules 2 0 1
 checks = first_of 2 0 watch checking_mode _ check_task refl refl refl refl
 
 -- each window with its invocation
-all_invoked : Each (λ q (w : Window). Invoked three_modules w.module.0 w.mode.0 w.invocation) turns_taken.windows
+abbrev all_invoked : Each (λ q (w : Window). Invoked three_modules w.module.0 w.mode.0 w.invocation)
+    turns_taken.windows
 all_invoked =
     counts ▸ counts ▸ counts ▸ counts_slowly ▸ counts_slowly ▸ counts_slowly ▸ gathers ▸ gathers ▸ checks ▸ tt
 
@@ -123,46 +123,66 @@ all_last =
     omega arith ▸ omega arith ▸ omega arith ▸ omega arith ▸ omega arith ▸ omega arith ▸ omega arith ▸ omega arith
     ▸ omega arith ▸ tt
 
--- a window lies between the start and the deadline of an invocation
-abbrev InTime : Window → Invocation → Task → Type 0
-InTime w i t = (i.s.0 ≤ w.offset) × (w.offset + w.length ≤ deadline turns_taken w.module.0 w.mode.0 w.invocation i.e.0)
+-- what is said of a window, its invocation and its task
+abbrev OfWindow : Type 1
+OfWindow = Window → Invocation → Task → Type 0
 
--- a window lies within an invocation and is as long as the frame of its task
-abbrev Carries : Window → Invocation → Task → Type 0
-Carries w i t = (i.s.0 ≤ w.offset) × (w.offset + w.length ≤ i.e.0) × (duration_of on_nodes t ≤ w.length)
+-- each of these windows has its invocation
+abbrev AllInvoked : List Window → Type 0
+AllInvoked = Each (λ q (w : Window). Invoked three_modules w.module.0 w.mode.0 w.invocation)
 
--- what holds of the invocation of a window
-abbrev OfWindow : (Window → Invocation → Task → Type 0) → Window → Type 0
-OfWindow P w = (i : Invoked three_modules w.module.0 w.mode.0 w.invocation) → P w i.invocation i.task
+-- P holds of each window with the invocation that it has
+abbrev EachWith : OfWindow → (ws : List Window) → AllInvoked ws → Type 0
+EachWith P [] is = Unit {0}
+EachWith P (w ∷ ws) is = P w (is.0).invocation (is.0).task × EachWith P ws is.1
+
+-- P holds of a window with all that is said to be its invocation
+abbrev Always : OfWindow → Window → Type 0
+Always P w = (i : Invoked three_modules w.module.0 w.mode.0 w.invocation) → P w i.invocation i.task
+
+-- so it does where it holds with the one it has
+each_with : (P : OfWindow) (ws : List Window) (is : AllInvoked ws) → EachWith P ws is → Each (λ q w. Always P w) ws
+each_with P [] is all = tt
+each_with P (w ∷ ws) is all = (
+  (λ j. same_invoked w.module.0 w.mode.0 w.invocation (P w) is.0 j all.0),
+  each_with P ws is.1 all.1,
+)
+
+-- a processor window lies between the start and the deadline of an invocation
+abbrev InTime : OfWindow
+InTime w i t = is_bus w.resource ≡ false → (i.s.0 ≤ w.offset)
+    × (w.offset + w.length ≤ deadline turns_taken w.module.0 w.mode.0 w.invocation i.e.0)
+
+-- a bus window lies within an invocation and is as long as the frame of its task
+abbrev Carries : OfWindow
+Carries w i t = is_bus w.resource ≡ true → (i.s.0 ≤ w.offset) × (w.offset + w.length ≤ i.e.0)
+    × (duration_of on_nodes t ≤ w.length)
 
 -- processor windows are in time
-all_in_time : Each (λ q (w : Window). is_bus w.resource ≡ false → OfWindow InTime w) turns_taken.windows
+all_in_time : EachWith InTime turns_taken.windows all_invoked
 all_in_time =
-    (λ e i. same_invoked 0 0 1 (InTime (call_window Cpu 0 0 0 2)) counts i (omega arith, omega arith))
-    ▸ (λ e i. same_invoked 0 0 1 (InTime (call_window Cpu 0 0 3 2)) counts i (omega arith, omega arith))
+    (λ e. (omega arith, omega arith))
+    ▸ (λ e. (omega arith, omega arith))
     ▸ (λ e. absurd (cc e))
-    ▸ (λ e i. same_invoked 0 1 1 (InTime (call_window Cpu 0 1 0 2)) counts_slowly i (omega arith, omega arith))
-    ▸ (λ e i. same_invoked 0 1 1 (InTime (call_window Cpu 0 1 3 2)) counts_slowly i (omega arith, omega arith))
+    ▸ (λ e. (omega arith, omega arith))
+    ▸ (λ e. (omega arith, omega arith))
     ▸ (λ e. absurd (cc e))
-    ▸ (λ e i. same_invoked 1 0 1 (InTime (call_window Cpu 1 0 0 3)) gathers i (omega arith, omega arith))
+    ▸ (λ e. (omega arith, omega arith))
     ▸ (λ e. absurd (cc e))
-    ▸ (λ e i. same_invoked 2 0 1 (InTime (call_window Cpu 2 0 2 1)) checks i (omega arith, omega arith))
+    ▸ (λ e. (omega arith, omega arith))
     ▸ tt
 
 -- bus windows carry their frames
-all_carry : Each (λ q (w : Window). is_bus w.resource ≡ true → OfWindow Carries w) turns_taken.windows
+all_carry : EachWith Carries turns_taken.windows all_invoked
 all_carry =
     (λ e. absurd (cc e))
     ▸ (λ e. absurd (cc e))
-    ▸ (λ e i. same_invoked 0 0 1 (Carries (call_window Bus 0 0 6 1)) counts
-    i (omega arith, omega arith, omega arith))
+    ▸ (λ e. (omega arith, omega arith, omega arith))
     ▸ (λ e. absurd (cc e))
     ▸ (λ e. absurd (cc e))
-    ▸ (λ e i. same_invoked 0 1 1 (Carries (call_window Bus 0 1 16 1)) counts_slowly
-    i (omega arith, omega arith, omega arith))
+    ▸ (λ e. (omega arith, omega arith, omega arith))
     ▸ (λ e. absurd (cc e))
-    ▸ (λ e i. same_invoked 1 0 1 (Carries (call_window Bus 1 0 4 1)) gathers
-    i (omega arith, omega arith, omega arith))
+    ▸ (λ e. (omega arith, omega arith, omega arith))
     ▸ (λ e. absurd (cc e))
     ▸ tt
 
@@ -200,10 +220,12 @@ pub three_passes : Passes three_modules on_nodes turns_taken
 three_passes = record {
   invoked = from_each (λ q w. Invoked three_modules w.module.0 w.mode.0 w.invocation) turns_taken.windows all_invoked;
   lengths = from_each (λ q w. 0 < w.length) turns_taken.windows all_last;
-  within = from_each (λ q w. is_bus w.resource ≡ false → OfWindow InTime w) turns_taken.windows all_in_time;
+  within = λ q w at cpu i. from_each (λ q w. Always InTime w) turns_taken.windows
+      (each_with InTime turns_taken.windows all_invoked all_in_time) q w at i cpu;
   enough = of_each IsEnough all_enough;
   one_bus = of_each HasOneBus all_one_bus;
-  on_bus = from_each (λ q w. is_bus w.resource ≡ true → OfWindow Carries w) turns_taken.windows all_carry;
+  on_bus = λ q w at bus i. from_each (λ q w. Always Carries w) turns_taken.windows
+      (each_with Carries turns_taken.windows all_invoked all_carry) q w at i bus;
   apart = from_each_two Disjoint turns_taken.windows all_disjoint;
   cpu_apart = λ q r node v w lt at bt a b c.
       from_each_two ApartOnNode turns_taken.windows all_apart_on_nodes q r v w lt at bt a b c node;

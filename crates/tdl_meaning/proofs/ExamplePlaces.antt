@@ -10,11 +10,11 @@ Each P [] = Unit {0}
 Each P (x ∷ xs) = P 0 x × Each (λ n. P (suc n)) xs
 
 infixr 5 ◌▸◌
--- what holds of an item, and what holds of those behind it
+-- what holds of an item, and what holds of those after it
 abbrev pub ◌▸◌ : {A B : Type 0} → A → B → A × B
 a ▸ b = (a, b)
 
--- R of each item and each item behind it
+-- R of each item and each item after it
 abbrev pub EachTwo : {A : Type 0} → (A → A → Type 0) → List A → Type 0
 EachTwo R [] = Unit {0}
 EachTwo R (x ∷ xs) = Each (λ n. R x) xs × EachTwo R xs

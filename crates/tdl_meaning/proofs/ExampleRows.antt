@@ -9,8 +9,9 @@ use Rattle.tdl_base.specs.Numbers.{narrowed, wrapped, truth}
 use Rattle.tdl_body.specs.declared.tree.Expr.TheVariants as expr
 use Rattle.tdl_body.specs.declared.tree.Stmt.TheVariants as stmt
 use Rattle.tdl_body.specs.Values.{Look, read, value_of}
-use Rattle.tdl_body.specs.Effects.{Cells, done, stored, look_of_cells}
-use Rattle.tdl_body.proofs.Equations.{value_of-const, value_of-load, value_of-bin, done-stmts, done_one-assign}
+use Rattle.tdl_base.specs.Cells.{Cells, stored}
+use Rattle.tdl_body.specs.Effects.{effect_of, look_of_cells}
+use Rattle.tdl_body.proofs.Equations.{value_of-const, value_of-load, value_of-bin, effect_of-stmts, effect_of_stmt-assign}
 use Rattle.tdl_mode.specs.States.{State, result_of}
 use Rattle.tdl_mode.specs.Instants.{logical, begun, state_at}
 use Rattle.tdl_trace.specs.Shown.{Shown}
@@ -43,11 +44,11 @@ value_of-cell_sum look =
     ∙ ap (λ (v : ℤ). wrapped (look.cell 1 +ℤ v)) (value_of-load (Cell 0) look)
 
 -- the body sets cell 1 to that sum
-done-adding : (cells : Cells) → done (record { stmts = stmt.Assign 1 cell_sum ∷ [] }) cells ≡
+done-adding : (cells : Cells) → effect_of (record { stmts = stmt.Assign 1 cell_sum ∷ [] }) cells ≡
     stored 1 (wrapped ((look_of_cells cells).cell 1 +ℤ (look_of_cells cells).cell 0)) cells
 done-adding cells =
-    done-stmts (stmt.Assign 1 cell_sum ∷ []) cells
-    ∙ done_one-assign 1 cell_sum cells
+    effect_of-stmts (stmt.Assign 1 cell_sum ∷ []) cells
+    ∙ effect_of_stmt-assign 1 cell_sum cells
     ∙ ap (λ (v : ℤ). stored 1 v cells) (value_of-cell_sum (look_of_cells cells))
 
 -- the output after a job

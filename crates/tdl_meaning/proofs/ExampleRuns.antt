@@ -47,20 +47,20 @@ abbrev pub at_worst : Program → Times
 at_worst p m t k = unwrap_or (worst_at p m t) 1
 
 -- these are such times, in every well-formed program
-pub at_worst-within : (p : Program) → WellFormed p → IsWithinWorst p (at_worst p)
-at_worst-within p form m t k w worst = by_module (slice_get p.modules m) refl worst
+pub at_worst-within : (program : Program) → WellFormed program → IsWithinWorst program (at_worst program)
+at_worst-within program form m t k w worst = by_module (slice_get program.modules m) refl worst
   where
-    by_module : (o : Option Module) → slice_get p.modules m ≡ o →
+    by_module : (o : Option Module) → slice_get program.modules m ≡ o →
         option_map (λ (u : Task). u.worst.0) (option_and_then (λ (d : Module). slice_get d.tasks t) o) ≡ Some w →
-        (0 < at_worst p m t k) × (at_worst p m t k ≤ w)
+        (0 < at_worst program m t k) × (at_worst program m t k ≤ w)
     by_module None at e = absurd (cc e)
     by_module (Some d) at e = by_task (slice_get d.tasks t) refl e
       where
         by_task : (o : Option Task) → slice_get d.tasks t ≡ o → option_map (λ (u : Task). u.worst.0) o ≡ Some w →
-            (0 < at_worst p m t k) × (at_worst p m t k ≤ w)
+            (0 < at_worst program m t k) × (at_worst program m t k ≤ w)
         by_task None it e = absurd (cc e)
         by_task (Some u) it e =
-            let is : at_worst p m t k ≡ w = ap (λ o. unwrap_or o 1) worst in
+            let is : at_worst program m t k ≡ w = ap (λ o. unwrap_or o 1) worst in
             let takes : u.worst.0 ≡ w = ap (λ o. unwrap_or o w) e in
             let lasts : 0 < u.worst.0 = (form.modules m d at).worsts t u it in
             (omega (arith, is, takes, lasts), omega (arith, is))

@@ -15,7 +15,7 @@ use Rattle.tdl_mode.specs.declared.program.Module.{Module}
 use Rattle.tdl_mode.specs.WellFormed.{MayRead, AllRead, Readable, WellMode, WellModule, WellFormed}
 use Rattle.tdl_meaning.specs.ExampleThree.{output_of, count_task, quick_mode, slow_mode, meter, gather_task, gathering_mode, panel, check_task, checking_mode, watch, three_modules}
 use Rattle.tdl_meaning.proofs.ExamplePlaces.{◌▸◌, from_each}
-use Rattle.tdl_meaning.proofs.ExampleModes.{small_mode, one_import}
+use Rattle.tdl_meaning.proofs.ExampleModes.{small_mode, among_lower}
 
 -- ---- what expressions read
 
@@ -106,7 +106,7 @@ well_quick = small_mode three_modules 0 meter 0 quick_mode (record {
   invocations = record {
     lasts = omega arith;
     ends = omega arith;
-    text = count_task;
+    definition = count_task;
     task = refl;
     inputs = refl;
     fits = omega arith;
@@ -121,7 +121,7 @@ well_quick = small_mode three_modules 0 meter 0 quick_mode (record {
     other = refl;
     guard = loads_above 0 meter (Port (output_of 0)) (pos 0) reads_own;
   } ▸ tt;
-  at_end = refl ▸ tt;
+  closed = ((λ begun ends. omega (arith, ends)) ▸ tt) ▸ tt;
   calls_first = refl ▸ tt;
   drivers_next = tt;
   turns_next = refl ▸ tt;
@@ -136,7 +136,7 @@ well_slow = small_mode three_modules 0 meter 1 slow_mode (record {
   invocations = record {
     lasts = omega arith;
     ends = omega arith;
-    text = count_task;
+    definition = count_task;
     task = refl;
     inputs = refl;
     fits = omega arith;
@@ -151,7 +151,7 @@ well_slow = small_mode three_modules 0 meter 1 slow_mode (record {
     other = refl;
     guard = loads_above 0 meter (Port (output_of 0)) (pos 0) reads_own;
   } ▸ tt;
-  at_end = refl ▸ tt;
+  closed = ((λ begun ends. omega (arith, ends)) ▸ tt) ▸ tt;
   calls_first = refl ▸ tt;
   drivers_next = tt;
   turns_next = refl ▸ tt;
@@ -166,7 +166,7 @@ well_gathering = small_mode three_modules 1 panel 0 gathering_mode (record {
   invocations = record {
     lasts = omega arith;
     ends = omega arith;
-    text = gather_task;
+    definition = gather_task;
     task = refl;
     inputs = refl;
     fits = omega arith;
@@ -181,7 +181,7 @@ well_gathering = small_mode three_modules 1 panel 0 gathering_mode (record {
     value = loads 1 panel (Port (output_of 0)) reads_count;
   } ▸ tt;
   switches = tt;
-  at_end = tt;
+  closed = tt;
   calls_first = refl ▸ tt;
   drivers_next = refl ▸ tt;
   turns_next = tt;
@@ -196,7 +196,7 @@ well_checking = small_mode three_modules 2 watch 0 checking_mode (record {
   invocations = record {
     lasts = omega arith;
     ends = omega arith;
-    text = check_task;
+    definition = check_task;
     task = refl;
     inputs = refl;
     fits = omega arith;
@@ -205,7 +205,7 @@ well_checking = small_mode three_modules 2 watch 0 checking_mode (record {
   } ▸ tt;
   updates = tt;
   switches = tt;
-  at_end = tt;
+  closed = tt;
   calls_first = refl ▸ tt;
   drivers_next = tt;
   turns_next = tt;
@@ -219,7 +219,7 @@ well_meter = record {
   start = omega arith;
   modes = from_each (WellMode three_modules 0 meter) meter.modes (well_quick ▸ well_slow ▸ tt);
   worsts = from_each (λ t task. 0 < task.worst.0) meter.tasks (omega arith ▸ tt);
-  imports = λ i e. absurd (cc e);
+  imports = λ i. among_lower 0 i meter.imports refl;
 }
 
 -- the panel imports the meter
@@ -228,7 +228,7 @@ well_panel = record {
   start = omega arith;
   modes = from_each (WellMode three_modules 1 panel) panel.modes (well_gathering ▸ tt);
   worsts = from_each (λ t task. 0 < task.worst.0) panel.tasks (omega arith ▸ tt);
-  imports = λ i e. omega (arith, one_import i 0 e);
+  imports = λ i. among_lower 1 i panel.imports refl;
 }
 
 -- the watch imports the panel
@@ -237,7 +237,7 @@ well_watch = record {
   start = omega arith;
   modes = from_each (WellMode three_modules 2 watch) watch.modes (well_checking ▸ tt);
   worsts = from_each (λ t task. 0 < task.worst.0) watch.tasks (omega arith ▸ tt);
-  imports = λ i e. omega (arith, one_import i 1 e);
+  imports = λ i. among_lower 2 i watch.imports refl;
 }
 
 -- the three modules are well-formed

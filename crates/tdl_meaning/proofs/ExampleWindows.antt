@@ -68,7 +68,7 @@ other_node : {X Y Z W : Type 0} (m k : ℕ) → (m % 2 ≡ k % 2 → ⊥) →
     X → Y → Z → (node : ℕ) → hosts on_nodes node m ≡ true → hosts on_nodes node k ≡ true → W
 other_node m k differ x y z node h g = absurd (differ (sym ((at_home m node h).1) ∙ (at_home k node g).1))
 
--- ---- the windows, two by two: each with those behind it
+-- ---- the windows, two by two: each with those after it
 
 -- where two windows are of one resource, module and mode, they do not overlap
 abbrev pub Disjoint : Window → Window → Type 0
@@ -100,17 +100,21 @@ ApartOnNode v w =
 pub all_apart_on_nodes : EachTwo ApartOnNode turns_taken.windows
 all_apart_on_nodes =
     (same ▸ then no_cpu ▸ same ▸ same ▸ then no_cpu ▸ other_node 0 1 (λ e. absurd (cc e)) ▸ then no_cpu
-    ▸ (λ a b c node d e. meter_apart_watch 0 0 2 (λ m. omega (arith, m.y_from, m.y_below, m.z_from, m.z_below, m.same)))
+    ▸ (λ a b c node d e. meter_apart_watch _ _ refl refl
+    (λ m. omega (arith, m.y_from, m.y_below, m.z_from, m.z_below, m.same)))
     ▸ tt)
     ▸ (then no_cpu ▸ same ▸ same ▸ then no_cpu ▸ other_node 0 1 (λ e. absurd (cc e)) ▸ then no_cpu
-    ▸ (λ a b c node d e. meter_apart_watch 0 3 2 (λ m. omega (arith, m.y_from, m.y_below, m.z_from, m.z_below, m.same)))
+    ▸ (λ a b c node d e. meter_apart_watch _ _ refl refl
+    (λ m. omega (arith, m.y_from, m.y_below, m.z_from, m.z_below, m.same)))
     ▸ tt)
     ▸ (no_cpu ▸ no_cpu ▸ no_cpu ▸ no_cpu ▸ no_cpu ▸ no_cpu ▸ tt)
     ▸ (same ▸ then no_cpu ▸ other_node 0 1 (λ e. absurd (cc e)) ▸ then no_cpu
-    ▸ (λ a b c node d e. meter_apart_watch 1 0 2 (λ m. omega (arith, m.y_from, m.y_below, m.z_from, m.z_below, m.same)))
+    ▸ (λ a b c node d e. meter_apart_watch _ _ refl refl
+    (λ m. omega (arith, m.y_from, m.y_below, m.z_from, m.z_below, m.same)))
     ▸ tt)
     ▸ (then no_cpu ▸ other_node 0 1 (λ e. absurd (cc e)) ▸ then no_cpu
-    ▸ (λ a b c node d e. meter_apart_watch 1 3 2 (λ m. omega (arith, m.y_from, m.y_below, m.z_from, m.z_below, m.same)))
+    ▸ (λ a b c node d e. meter_apart_watch _ _ refl refl
+    (λ m. omega (arith, m.y_from, m.y_below, m.z_from, m.z_below, m.same)))
     ▸ tt)
     ▸ (no_cpu ▸ no_cpu ▸ no_cpu ▸ tt)
     ▸ (then no_cpu ▸ other_node 1 2 (λ e. absurd (cc e)) ▸ tt)
@@ -130,12 +134,12 @@ all_apart_on_bus =
     (no_bus ▸ no_bus ▸ no_bus ▸ no_bus ▸ no_bus ▸ no_bus ▸ no_bus ▸ no_bus ▸ tt)
     ▸ (no_bus ▸ no_bus ▸ no_bus ▸ no_bus ▸ no_bus ▸ no_bus ▸ no_bus ▸ tt)
     ▸ (then no_bus ▸ then no_bus ▸ same ▸ then no_bus
-    ▸ (λ a b c. meter_apart_panel 0 6 (λ m. omega (arith, m.y_from, m.y_below, m.z_from, m.z_below, m.same)))
+    ▸ (λ a b c. meter_apart_panel _ _ refl refl (λ m. omega (arith, m.y_from, m.y_below, m.z_from, m.z_below, m.same)))
     ▸ then no_bus ▸ tt)
     ▸ (no_bus ▸ no_bus ▸ no_bus ▸ no_bus ▸ no_bus ▸ tt)
     ▸ (no_bus ▸ no_bus ▸ no_bus ▸ no_bus ▸ tt)
     ▸ (then no_bus
-    ▸ (λ a b c. meter_apart_panel 1 16 (λ m. omega (arith, m.y_from, m.y_below, m.z_from, m.z_below, m.same)))
+    ▸ (λ a b c. meter_apart_panel _ _ refl refl (λ m. omega (arith, m.y_from, m.y_below, m.z_from, m.z_below, m.same)))
     ▸ then no_bus ▸ tt)
     ▸ (no_bus ▸ no_bus ▸ tt)
     ▸ (then no_bus ▸ tt)

@@ -1,5 +1,5 @@
 -- The frame of a bus window: what it carries, how it keeps that on the bus, and what it does where it arrives.
-use Rattle.std.proofs.Common.{◌≡◌, ℕ, suc, ◌+◌, ◌<◌, ◌≤◌, ℤ, List, [], ◌∷◌, Bool, true, false, ◌&&◌, ◌==◌, Some, None, refl, ap, ap₂, sym, ◌∙◌, subst, arith}
+use Rattle.std.proofs.Common.{◌≡◌, ℕ, suc, ◌+◌, ◌<◌, ℤ, List, [], ◌∷◌, Bool, true, false, ◌&&◌, ◌==◌, Some, None, refl, ap, ap₂, sym, ◌∙◌, subst, arith}
 use Rattle.std.specs.Prelude.{slice_get, option_map, unwrap_or, if◌then◌else◌}
 use Rattle.std.proofs.lemmas.Bool.{eqb-true, eq-eqb, and_parts, and_from}
 use Rattle.std.proofs.lemmas.Option.{same_Some}
@@ -7,47 +7,24 @@ use Rattle.tdl_base.specs.declared.numbers.PortKey.{PortKey}
 use Rattle.tdl_mode.specs.declared.program.Module.{Module}
 use Rattle.tdl_mode.specs.declared.program.Mode.{Mode}
 use Rattle.tdl_mode.specs.declared.program.Invocation.{Invocation}
-use Rattle.tdl_mode.specs.States.{Job, ModuleState, Sensed, invocation_of}
+use Rattle.tdl_base.specs.Sensed.{Sensed}
+use Rattle.tdl_mode.specs.States.{Job, ModuleState, invocation_of}
 use Rattle.tdl_mode.specs.Instants.{alone}
 use Rattle.tdl_frame.specs.Frames.{Member}
 use Rattle.tdl_image.specs.declared.hosted.ImageWindow.{ImageWindow}
 use Rattle.tdl_image.specs.declared.stub.Receive.{Receive}
 use Rattle.tdl_verify.specs.States.{EntryNow}
 use Rattle.tdl_verify.specs.Bus.{Flight, received}
-use Rattle.tdl_meaning.proofs.ActiveJobs.{WellModes, Standing, ActiveJob, end_of, made_by, stays, kept_across, at_mode, was_active}
-use Rattle.tdl_meaning.proofs.EntryFacts.{EntryFact}
-
--- the active job of invocation n of task t, whose result these values are
-pub record Executed (m : Module) (x : ℕ) (r : ModuleState) (t n : ℕ) (values : List ℤ) : Type 0 where
-  pub job : ActiveJob m x r t
-  pub invocation : job.job.invocation ≡ n
-  pub values' : values ≡ made_by m x r t job
-
--- a frame on the bus before x is that of bus window w of module kk, which lies inside its invocation: it has one
--- member, executed with the result of the invocation's job, or not executed where there is no such job
-pub record Carries (m : Module) (kk x : ℕ) (r : ModuleState) (w : ImageWindow) (f : Flight) : Type 0 where
-  pub mode' : w.mode ≡ r.mode
-  pub mode : Mode
-  pub mode_at : slice_get m.modes r.mode ≡ Some mode
-  pub invocation : Invocation
-  pub at : invocation_of mode.invocations w.invocation ≡ Some invocation
-  pub after : invocation.s.0 < w.offset
-  pub within : w.offset + w.length ≤ invocation.e.0
-  pub from : f.sent_at ≡ r.base + w.offset
-  pub until : f.until ≡ r.base + w.offset + w.length
-  pub begun : f.sent_at < x
-  pub open' : x ≤ f.until
-  pub member : Member
-  pub frame : f.frame ≡ record { owner = kk; mode = w.mode; members = member ∷ [] }
-  pub number : member.invocation ≡ w.invocation
-  pub executed : member.executed ≡ true → Executed m x r invocation.task.0 w.invocation member.values
-  pub idle : member.executed ≡ false → (a : ActiveJob m x r invocation.task.0) → a.job.invocation ≡ w.invocation → ⊥
+use Rattle.tdl_meaning.proofs.ActiveJobs.{WellModes, Standing, stays, kept_across, at_mode, was_active}
+use Rattle.tdl_meaning.specs.Entries.{ActiveJob, job_end, EntryFact}
+use Rattle.tdl_meaning.specs.BusTables.{WellReceive}
+use Rattle.tdl_meaning.specs.BusFrames.{Executed, Carries}
 
 -- ---- while it is in flight
 
 module _ (m : Module) (well : WellModes m) (x : ℕ) (r : ModuleState) (stood : Standing m x r) (kk : ℕ) (sensed : Sensed)
     (seen : PortKey → ℤ) where
-  -- the state behind x
+  -- the state after x
   abbrev next : ModuleState
   next = alone kk x sensed seen r
 
@@ -109,14 +86,6 @@ module _ (m : Module) (well : WellModes m) (x : ℕ) (r : ModuleState) (stood : 
           same_Some i i' (sym here ∙ ap₂ (λ (d : Mode) n. invocation_of d.invocations n) q e ∙ here')
 
 -- ---- where it arrives
-
--- an entry's task is its invocation's, and the entry waits from the end of each bus window of its invocation to the
--- invocation's end
-abbrev pub WellReceive : Module → List ImageWindow → Receive → Type 0
-WellReceive m ws e =
-    (mode : Mode) (i : Invocation) (n : ℕ) (w : ImageWindow) → slice_get m.modes e.mode ≡ Some mode →
-    invocation_of mode.invocations e.invocation ≡ Some i → slice_get ws n ≡ Some w → w.bus ≡ true →
-    w.mode ≡ e.mode → w.invocation ≡ e.invocation → (i.task.0 ≡ e.task) × (w.offset + w.length + e.delta ≡ i.e.0)
 
 -- the entry where a frame brought its member
 abbrev pub got_by : ℕ → Member → Receive → EntryNow
@@ -197,7 +166,7 @@ module _ (m : Module) (ws : List ImageWindow) (x : ℕ) (r : ModuleState) where
   pub got_arrives : (kk : ℕ) (w : ImageWindow) (n : ℕ) (f : Flight) → slice_get ws n ≡ Some w → w.bus ≡ true →
       Carries m kk x r w f → f.until ≡ x → (e : Receive) → WellReceive m ws e → (now : EntryNow) →
       w.mode ≡ e.mode → w.invocation ≡ e.invocation → (a : ActiveJob m x r e.task) → e.invocation ≡ a.job.invocation →
-      (received x f.frame e now).due ≡ Some (end_of m x r e.task a)
+      (received x f.frame e now).due ≡ Some (job_end m x r e.task a)
   got_arrives kk w n f at bus c end e well now mode named a job =
       let ok = entry_of_window kk w n f at bus c e well mode named in
       let test : is_for_entry w.mode c.member e ≡ true =
@@ -206,7 +175,7 @@ module _ (m : Module) (ws : List ImageWindow) (x : ℕ) (r : ModuleState) where
       let until = c.until in
       let delta = ok.1 in
       let ends = same_end kk w f c e.task a (sym job ∙ sym named) in
-      let when : x + e.delta ≡ end_of m x r e.task a = omega (arith, end, until, delta, ends) in
+      let when : x + e.delta ≡ job_end m x r e.task a = omega (arith, end, until, delta, ends) in
       ap (λ fr. (received x fr e now).due) c.frame
       ∙ ap (λ (j : EntryNow). j.due) (received-is x kk w.mode c.member e now)
       ∙ ap (λ b. (if b then got_by x c.member e else now).due) test ∙ ap Some when

@@ -7,8 +7,10 @@ use Rattle.tdl_mode.specs.declared.program.Mode.{Mode}
 use Rattle.tdl_mode.specs.States.{Job, TaskState, ModuleState}
 use Rattle.tdl_image.specs.declared.hosted.Hosted.{Hosted}
 use Rattle.tdl_verify.specs.States.{Slot, TaskNow, HostNow}
-use Rattle.tdl_meaning.proofs.HostFacts.{IsJob, SlotPair, TaskPair, Pairs, HostFacts, worst_of}
-use Rattle.tdl_meaning.proofs.ActiveJobs.{Standing, ActiveJob}
+use Rattle.tdl_meaning.proofs.ActiveJobs.{Standing}
+use Rattle.tdl_deploy.specs.AtRelease.{worst_case_of}
+use Rattle.tdl_meaning.specs.HostInStep.{IsJob, SlotPair, TaskPair, Pairs, HostFacts}
+use Rattle.tdl_meaning.specs.Entries.{ActiveJob}
 
 -- the job of a task, as an active job
 pub record TaskJob (m : Module) (x : ℕ) (r : ModuleState) (t : ℕ) (u : TaskState) (job : Job) : Type 0 where
@@ -50,7 +52,7 @@ job_of : (k : ℕ) (mode : Mode) (covers : ℕ → ℕ → ℕ) (worst : ℕ →
 job_of k mode covers worst t d c u w job active pair = by_slot u.active w.slot active pair.slot
   where
     by_slot : (o : Option Job) (slot : Slot) → o ≡ Some job →
-        SlotPair k mode covers worst t d c u.text u.outputs o slot → IsJob k mode t d job
+        SlotPair k mode covers worst t d c u.definition u.outputs o slot → IsJob k mode t d job
     by_slot None slot e p = absurd (cc e)
     by_slot (Some j) Slot.Idle e p = absurd p
     by_slot (Some j) (Slot.Ready md i left cells) e p = subst (IsJob k mode t d) (same_Some j job e) p.0
@@ -77,7 +79,7 @@ live_before m h x r s f t u job here active =
     let z : 0 + t ≡ t = omega arith in
     active_from m x r f.facts.mode f.facts.at f.offset f.now t u job here active
     (subst (λ j. IsJob r.mode f.facts.mode j f.offset job) z
-    (pairs_jobs r.mode f.facts.mode _ (worst_of m) f.offset f.offset 0 r.tasks s.tasks f.facts.tasks t u job
+    (pairs_jobs r.mode f.facts.mode _ (worst_case_of m) f.offset f.offset 0 r.tasks s.tasks f.facts.tasks t u job
     here active))
 
 -- where a hosted module stands before x
@@ -85,7 +87,7 @@ pub standing : (m : Module) (h : Hosted) (x : ℕ) (r : ModuleState) (s : HostNo
 standing m h x r s f = record {
   mode = f.facts.mode;
   at = f.facts.at;
-  text = f.facts.text;
+  definition = f.facts.definition;
   offset = f.offset;
   now = f.now;
 }

@@ -8,18 +8,19 @@ use Rattle.tdl_image.specs.declared.hosted.Hosted.{Hosted}
 use Rattle.tdl_verify.specs.States.{HostNow}
 use Rattle.tdl_verify.specs.Micros.{is_live, tasks_run}
 use Rattle.tdl_gen.specs.Tables.{hosted_of, task_table}
-use Rattle.tdl_meaning.proofs.HostFacts.{TaskPairs, covers_of, HostFacts, HostAfter, worst_of}
 use Rattle.tdl_meaning.proofs.TaskMicros.{micro_pairs}
-use Rattle.tdl_meaning.proofs.PhaseFour.{texts}
+use Rattle.tdl_meaning.proofs.PhaseFour.{definitions}
+use Rattle.tdl_deploy.specs.AtRelease.{worst_case_of}
+use Rattle.tdl_meaning.specs.HostInStep.{TaskPairs, covers_of, HostFacts, HostAfter}
 
--- the tables of the tasks, from their texts
-tables-same : (us : List TaskState) (ts : List Task) → texts us ≡ ts →
-    map (λ (u : TaskState). task_table u.text) us ≡ map task_table ts
+-- the tables of the tasks, from their definitions
+tables-same : (us : List TaskState) (ts : List Task) → definitions us ≡ ts →
+    map (λ (u : TaskState). task_table u.definition) us ≡ map task_table ts
 tables-same us ts e = made us ∙ ap (map task_table) e
   where
-    made : (us : List TaskState) → map (λ (u : TaskState). task_table u.text) us ≡ map task_table (texts us)
+    made : (us : List TaskState) → map (λ (u : TaskState). task_table u.definition) us ≡ map task_table (definitions us)
     made [] = refl
-    made (u ∷ us) = ap (λ l. task_table u.text ∷ l) (made us)
+    made (u ∷ us) = ap (λ l. task_table u.definition ∷ l) (made us)
 
 -- the state of a hosted module after its microsecond
 abbrev pub after_micro : Schedule → ℕ → ℕ → Module → HostNow → HostNow
@@ -41,7 +42,7 @@ micro_host sch kk m x r s f few =
       facts = record {
         mode = g.mode;
         at = g.at;
-        text = g.text;
+        definition = g.definition;
         above = g.above;
         within = g.within;
         mode' = g.mode';
@@ -50,11 +51,12 @@ micro_host sch kk m x r s f few =
         next = g.next;
         is_next = g.is_next;
         trigger = g.trigger;
-        texts = g.texts;
-        tasks = subst (λ ts. TaskPairs r.mode g.mode (covers_of r.mode h) (worst_of m) (suc f.offset) (suc f.offset) 0
+        definitions = g.definitions;
+        tasks = subst (λ ts. TaskPairs r.mode g.mode (covers_of r.mode h) (worst_case_of m) (suc f.offset)
+            (suc f.offset) 0
             r.tasks (tasks_run (filter (is_live x s) h.windows) ts s.tasks))
-            (tables-same r.tasks m.tasks g.texts)
-            (micro_pairs r.mode g.mode h (worst_of m) f.offset x s g.mode' at few 0 r.tasks s.tasks g.tasks);
+            (tables-same r.tasks m.tasks g.definitions)
+            (micro_pairs r.mode g.mode h (worst_case_of m) f.offset x s g.mode' at few 0 r.tasks s.tasks g.tasks);
         actuators = g.actuators;
         sizes = g.sizes;
       };

@@ -17,7 +17,8 @@ use Rattle.tdl_mode.specs.declared.program.Switch.{Switch}
 use Rattle.tdl_mode.specs.States.{invocation_of}
 use Rattle.tdl_image.specs.declared.hosted.Hosted.{Hosted}
 use Rattle.tdl_image.specs.declared.hosted.TaskTable.{TaskTable}
-use Rattle.tdl_verify.specs.States.{Part, Times, Sensed}
+use Rattle.tdl_base.specs.Sensed.{Sensed}
+use Rattle.tdl_verify.specs.States.{Part, Times}
 use Rattle.tdl_gen.specs.BlockNames.{guard_names, call_names, release_names, number_in}
 use Rattle.tdl_gen.specs.Tables.{coded, task_table, guard_in, hosted_of}
 use Rattle.tdl_gen.proofs.TablePlaces.{guard_acts, guard_found, call_found, driver_found}
@@ -31,7 +32,8 @@ use Rattle.tdl_gen.proofs.StartBlocks.{HasStart}
 use Rattle.tdl_mode.specs.WellFormed.{WellMode}
 use Rattle.tdl_meaning.specs.Accepted.{Accepted}
 use Rattle.tdl_meaning.proofs.FilterCounts.{filter-none}
-use Rattle.tdl_meaning.proofs.Every.{Every, every-filtered}
+use Rattle.tdl_meaning.proofs.Every.{every-filtered}
+use Rattle.tdl_meaning.specs.AllItems.{Every}
 
 -- ---- lists
 
@@ -110,11 +112,6 @@ module _ (given : Accepted) (kk : ℕ) (m : Module) (k : ℕ) (mode : Mode) (is 
   abbrev h : Hosted
   h = hosted_of given.schedule kk m
 
-  -- a guard of the mode stands in the table at its number
-  guard_at : (a : ℕ) (g : Expr) → list_any (λ b. b == a) (guard_acts mode) ≡ true → guard_in mode a ≡ Some g →
-      HasGuard h (number_in (guard_names m) k a) (Some g)
-  guard_at a g any first = guard_found m k a mode g is any first
-
   -- the guarded activities of the invocations
   abbrev acts_i : List ℕ
   acts_i = map (λ i. i.act) (filter (λ i. is_some i.guard) mode.invocations)
@@ -154,57 +151,55 @@ module _ (given : Accepted) (kk : ℕ) (m : Module) (k : ℕ) (mode : Mode) (is 
   abbrev guard_by_turn : ℕ → Option Expr
   guard_by_turn a = first_guard (λ (v : Switch). v.act) (λ v. v.guard) a mode.switches
 
+  -- the guard of an item is in the table, where all items of its activity have its guard, its activity is among the
+  -- guarded ones, and the mode's guard of it is the first of these items
+  guard_of : {A : Type 0} (act : A → ℕ) (guard : A → Option Expr) (xs : List A) (n : ℕ) (x : A) →
+      slice_get xs n ≡ Some x →
+      ((q : ℕ) (y : A) → slice_get xs q ≡ Some y → act y ≡ act x → guard y ≡ guard x) →
+      (list_any (λ b. b == act x) (map act (filter (λ y. is_some (guard y)) xs)) ≡ true →
+      list_any (λ b. b == act x) (guard_acts mode) ≡ true) →
+      ((g : Expr) → first_guard act guard (act x) xs ≡ Some g → guard_in mode (act x) ≡ Some g) →
+      HasGuard h (number_in (guard_names m) k (act x)) (guard x)
+  guard_of act guard xs n x at alike among first = by_guard (guard x) refl
+    where
+      by_guard : (o : Option Expr) → guard x ≡ o → HasGuard h (number_in (guard_names m) k (act x)) o
+      by_guard None e = tt
+      by_guard (Some g) e =
+          guard_found m k (act x) mode g is (among (any-guarded act guard g xs n x at e))
+          (first g (first_guard-is act guard (act x) (Some g) xs n x at refl (λ q y yt same. alike q y yt same ∙ e)))
+
   -- the guard of an invocation is in the table
   pub guard_i : (n : ℕ) (i : Invocation) → slice_get mode.invocations n ≡ Some i →
       HasGuard h (number_in (guard_names m) k i.act) i.guard
-  guard_i n i at = by_guard i.guard refl
-    where
-      by_guard : (o : Option Expr) → i.guard ≡ o → HasGuard h (number_in (guard_names m) k i.act) o
-      by_guard None e = tt
-      by_guard (Some g) e =
-          let first : guard_by_call i.act ≡ Some g =
-          first_guard-is (λ (j : Invocation). j.act) (λ j. j.guard) i.act (Some g) mode.invocations n i at refl
-          (λ q j jt ja. (well.calls q n j i jt at ja).2 ∙ e) in
-          guard_at i.act g (among_i i.act (any-guarded (λ (j : Invocation). j.act)
-          (λ j. j.guard) g mode.invocations n i at e))
-          (ap (λ o. option_or o (option_or (guard_by_driver i.act) (guard_by_turn i.act))) first)
+  guard_i n i at =
+      guard_of (λ (j : Invocation). j.act) (λ j. j.guard) mode.invocations n i at
+      (λ q j jt same. (well.calls q n j i jt at same).2) (among_i i.act)
+      (λ g. ap (λ o. option_or o (option_or (guard_by_driver i.act) (guard_by_turn i.act))))
 
   -- the guard of an update is in the table
   pub guard_u : (n : ℕ) (u : Update) → slice_get mode.updates n ≡ Some u →
       HasGuard h (number_in (guard_names m) k u.act) u.guard
-  guard_u n u at = by_guard u.guard refl
-    where
-      by_guard : (o : Option Expr) → u.guard ≡ o → HasGuard h (number_in (guard_names m) k u.act) o
-      by_guard None e = tt
-      by_guard (Some g) e =
-          let none : guard_by_call u.act ≡ None =
-          first_guard-none (λ (j : Invocation). j.act) (λ j. j.guard) u.act mode.invocations
-          (λ q j jt e. well.call_or_driver q n j u jt at e) in
-          let first : guard_by_driver u.act ≡ Some g =
-          first_guard-is (λ (v : Update). v.act) (λ v. v.guard) u.act (Some g) mode.updates n u at refl
-          (λ q v vt va. (well.drivers q n v u vt at va).2 ∙ e) in
-          guard_at u.act g (among_u u.act (any-guarded (λ (v : Update). v.act) (λ v. v.guard) g mode.updates n u at e))
-          (ap₂ (λ o other. option_or o (option_or other (guard_by_turn u.act))) none first)
+  guard_u n u at =
+      let no_call : guard_by_call u.act ≡ None =
+      first_guard-none (λ (j : Invocation). j.act) (λ j. j.guard) u.act mode.invocations
+      (λ q j jt same. well.call_or_driver q n j u jt at same) in
+      guard_of (λ (v : Update). v.act) (λ v. v.guard) mode.updates n u at
+      (λ q v vt same. (well.drivers q n v u vt at same).2) (among_u u.act)
+      (λ g. ap₂ (λ o other. option_or o (option_or other (guard_by_turn u.act))) no_call)
 
   -- the guard of a switch is in the table
   pub guard_s : (n : ℕ) (w : Switch) → slice_get mode.switches n ≡ Some w →
       HasGuard h (number_in (guard_names m) k w.act) w.guard
-  guard_s n w at = by_guard w.guard refl
-    where
-      by_guard : (o : Option Expr) → w.guard ≡ o → HasGuard h (number_in (guard_names m) k w.act) o
-      by_guard None e = tt
-      by_guard (Some g) e =
-          let none : guard_by_call w.act ≡ None =
-          first_guard-none (λ (j : Invocation). j.act) (λ j. j.guard) w.act mode.invocations
-          (λ q j jt e. well.call_or_turn q n j w jt at e) in
-          let none' : guard_by_driver w.act ≡ None =
-          first_guard-none (λ (v : Update). v.act) (λ v. v.guard) w.act mode.updates
-          (λ q v vt e. well.driver_or_turn q n v w vt at e) in
-          let first : guard_by_turn w.act ≡ Some g =
-          first_guard-is (λ (v : Switch). v.act) (λ v. v.guard) w.act (Some g) mode.switches n w at refl
-          (λ q v vt va. (well.turns q n v w vt at va).1 ∙ e) in
-          guard_at w.act g (among_s w.act (any-guarded (λ (v : Switch). v.act) (λ v. v.guard) g mode.switches n w at e))
-          (λ q. option_or (none q) (option_or (none' q) (first q)))
+  guard_s n w at =
+      let no_call : guard_by_call w.act ≡ None =
+      first_guard-none (λ (j : Invocation). j.act) (λ j. j.guard) w.act mode.invocations
+      (λ q j jt same. well.call_or_turn q n j w jt at same) in
+      let no_driver : guard_by_driver w.act ≡ None =
+      first_guard-none (λ (v : Update). v.act) (λ v. v.guard) w.act mode.updates
+      (λ q v vt same. well.driver_or_turn q n v w vt at same) in
+      guard_of (λ (v : Switch). v.act) (λ v. v.guard) mode.switches n w at
+      (λ q v vt same. (well.turns q n v w vt at same).1) (among_s w.act)
+      (λ g first q. option_or (no_call q) (option_or (no_driver q) (first q)))
 
   module _ (x node : ℕ) (sensed : Sensed) (times : Times) (look : Look) where
     -- the driver and the guard of an update are in their tables
@@ -271,5 +266,5 @@ module _ (given : Accepted) (kk : ℕ) (m : Module) (k : ℕ) (mode : Mode) (is 
               (record { mode = k; invocation = c; call = number_in (call_names m) k i.act })) one;
           call = call_found m k mode is n i at (λ q j jt ja. let c = well.calls q n j i jt at ja in (c.0, c.1));
           tasks = slice_get-map task_table m.tasks i.task.0 ∙ ap (option_map task_table) w.task
-              ∙ ap Some (sym (tables_of-is m i.task.0 w.text w.task));
+              ∙ ap Some (sym (tables_of-is m i.task.0 w.definition w.task));
         }

@@ -11,12 +11,13 @@ use Rattle.tdl_mode.specs.Instants.{alone}
 use Rattle.tdl_deploy.specs.Rows.{module_port_rows, module_act_rows, module_mode_rows}
 use Rattle.tdl_trace.specs.Shown.{Shown}
 use Rattle.tdl_image.specs.declared.hosted.Hosted.{Hosted}
-use Rattle.tdl_verify.specs.States.{TaskNow, HostNow, Part, Times, Sensed}
+use Rattle.tdl_base.specs.Sensed.{Sensed}
+use Rattle.tdl_verify.specs.States.{TaskNow, HostNow, Part, Times}
 use Rattle.tdl_gen.specs.Counts.{module_count}
 use Rattle.tdl_gen.specs.Tables.{hosted_of}
-use Rattle.tdl_meaning.proofs.HostFacts.{HostAfter}
 use Rattle.tdl_meaning.proofs.PartMoves.{PartMoves}
 use Rattle.tdl_meaning.specs.Accepted.{Accepted}
+use Rattle.tdl_meaning.specs.HostInStep.{HostAfter}
 
 -- the outputs of task t are the same on the node, where those of all tasks are
 pub outputs-map : (us : List TaskState) (ws : List TaskNow) (t : ℕ) →
@@ -33,7 +34,7 @@ pub no_mode_row : (x node kk : ℕ) (old new : ModuleState) → old.mode ≡ new
 no_mode_row x node kk old new same = ap shown (eq-eqb old.mode new.mode same)
   where
     shown : Bool → List Shown
-    shown b = if b then [] else Shown.Entered x node kk new.mode ∷ []
+    shown b = if b then [] else Shown.Mode x node kk new.mode ∷ []
 
 -- a hosted module comes to a state in step with its logical state r
 abbrev pub HostComes : (m : Module) (h : Hosted) (x : ℕ) (r : ModuleState) → Part → Type 0

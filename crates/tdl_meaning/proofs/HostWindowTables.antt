@@ -1,4 +1,4 @@
--- Each bus window of a compiled module lies inside its invocation, behind windows that cover the worst case.
+-- Each bus window of a compiled module lies inside its invocation, after windows that cover the worst case.
 use Rattle.std.proofs.Common.{◌≡◌, ℕ, ◌<◌, ◌≤◌, filter, length, Bool, true, false, Some, refl, ap, ap₂, sym, ◌∙◌, subst₂, arith}
 use Rattle.std.specs.Prelude.{slice_get, option_map, unwrap_or, if◌then◌else◌}
 use Rattle.std.proofs.lemmas.Bool.{eq-eqb, and_from}
@@ -17,13 +17,13 @@ use Rattle.tdl_deploy.specs.Passes.{Invoked, is_bus_of}
 use Rattle.tdl_gen.specs.Tables.{windows_of}
 use Rattle.tdl_verify.specs.Covered.{covered_by}
 use Rattle.tdl_mode.specs.WellFormed.{WellModule}
-use Rattle.tdl_meaning.proofs.HostFacts.{worst_of}
-use Rattle.tdl_meaning.proofs.WindowSends.{WellWindow}
 use Rattle.tdl_meaning.proofs.FilterCounts.{filter-some, find-only}
 use Rattle.tdl_meaning.proofs.ImageWindows.{scheduled_window}
 use Rattle.tdl_meaning.proofs.BusWindowTables.{bus_of}
 use Rattle.tdl_meaning.proofs.WindowsCover.{covers_all}
 use Rattle.tdl_meaning.specs.Accepted.{Accepted}
+use Rattle.tdl_deploy.specs.AtRelease.{worst_case_of}
+use Rattle.tdl_meaning.specs.BusTables.{WellWindow}
 
 module _ (given : Accepted) (kk : ℕ) (m : Module) (there : slice_get given.program.modules kk ≡ Some m)
     (well : WellModule given.program kk m) (h : Hosted) (windows : h.windows ≡ windows_of given.schedule kk) where
@@ -71,9 +71,9 @@ module _ (given : Accepted) (kk : ℕ) (m : Module) (there : slice_get given.pro
       let lasts = b.lasts in
       let enough = given.passes.enough kk w.mode w.invocation mine in
       let cover = covers_all given.schedule kk w.mode w.invocation b.window.offset b.done in
-      let worst : worst_of m inv.invocation.task.0 ≡ inv.task.worst.0 =
+      let worst : worst_case_of m inv.invocation.task.0 ≡ inv.task.worst.0 =
       ap (λ o. unwrap_or (option_map (λ (u : Task). u.worst.0) o) 0) ti in
-      let full : worst_of m inv.invocation.task.0
+      let full : worst_case_of m inv.invocation.task.0
       ≤ covered_by w.mode w.invocation b.window.offset (windows_of given.schedule kk) =
       omega (arith, worst, enough, cover) in
       record {
@@ -84,7 +84,7 @@ module _ (given : Accepted) (kk : ℕ) (m : Module) (there : slice_get given.pro
         after = omega (arith, starts, offset);
         within = omega (arith, ends, offset, size);
         lasts = omega (arith, lasts, size);
-        full = subst₂ (λ d ws. worst_of m inv.invocation.task.0 ≤ covered_by w.mode w.invocation d ws) offset
+        full = subst₂ (λ d ws. worst_case_of m inv.invocation.task.0 ≤ covered_by w.mode w.invocation d ws) offset
             (sym windows) full;
         task = tasks inv.mode inv.invocation w.mode w.invocation km ni;
         there = slice_get_within m.tasks inv.invocation.task.0 inv.task ti;

@@ -1,5 +1,5 @@
 -- Each module is hosted once among all parts, and somewhere.
-use Rattle.std.proofs.Common.{◌≡◌, ℕ, zero, suc, ◌+◌, ◌<◌, List, [], ◌∷◌, ◌++◌, map, true, Option, Some, None, refl, ap, sym, ◌∙◌, subst, arith}
+use Rattle.std.proofs.Common.{◌≡◌, ℕ, zero, suc, ◌+◌, ◌<◌, List, [], ◌∷◌, ◌++◌, true, Option, Some, None, refl, ap, sym, ◌∙◌, subst, arith}
 use Rattle.std.specs.Prelude.{slice_get, unwrap_or, option_map, if◌then◌else◌}
 use Rattle.std.proofs.lemmas.Option.{slice_get-map, slice_get_within, same_Some}
 use Rattle.tdl_base.specs.Lists.{numbered}
@@ -11,15 +11,16 @@ use Rattle.tdl_image.specs.declared.hosted.Hosted.{Hosted}
 use Rattle.tdl_image.specs.declared.bundle.Image.{Image}
 use Rattle.tdl_verify.specs.States.{HostNow, Part, NodeNow, host_first, stub_first, node_first}
 use Rattle.tdl_gen.specs.Tables.{hosted_of, stub_of}
-use Rattle.tdl_gen.specs.Realises.{image_of}
-use Rattle.tdl_gen.proofs.PartOrder.{part_at, parts-are}
-use Rattle.tdl_meaning.proofs.OneLive.{Ascends}
+use Rattle.tdl_gen.specs.Realises.{image_of, part_at}
+use Rattle.tdl_gen.proofs.PartOrder.{parts-are}
 use Rattle.tdl_verify.proofs.NodeSends.{all_parts}
 use Rattle.tdl_base.proofs.ListPlaces.{In, in-flat}
-use Rattle.tdl_meaning.proofs.NodeShapes.{Shape, Shapes}
 use Rattle.tdl_meaning.proofs.ItemPlaces.{numbered-at, in-joined-at}
 use Rattle.tdl_meaning.specs.Accepted.{Accepted}
-use Rattle.tdl_meaning.proofs.Every.{Every, all-at, all-of, all-append}
+use Rattle.tdl_meaning.proofs.Every.{all-at, all-of, all-append}
+use Rattle.tdl_meaning.specs.NodeShape.{Ascends, Shape, Shapes}
+use Rattle.tdl_meaning.specs.AllItems.{Every}
+use Rattle.tdl_meaning.specs.SystemStands.{first_nodes}
 
 -- a part that is not the host of module k
 abbrev Not : ℕ → Part → Type 0
@@ -123,14 +124,9 @@ module _ (given : Accepted) where
       ))
       by_node (Some node) e = record { node = node; at = e }
 
-  -- the compiler's nodes before instant 0
-  abbrev pub first_nodes : List NodeNow
-  first_nodes =
-      map node_first (numbered 0 (image_of given.program given.placement given.schedule) given.placement.nodes)
-
   -- each module has its host among their parts
   pub hosted_in : (kk : ℕ) (m : Module) → slice_get given.program.modules kk ≡ Some m →
-      In (host_first (hosted_of given.schedule kk m)) (all_parts first_nodes)
+      In (host_first (hosted_of given.schedule kk m)) (all_parts (first_nodes given))
   unfolding all_parts
   hosted_in kk m there =
       let host : Part = host_first (hosted_of given.schedule kk m) in
@@ -141,7 +137,7 @@ module _ (given : Accepted) where
       let o = node_of w.0 kk w.1 in
       let z : 0 + kk ≡ kk = omega arith in
       let y : 0 + w.0 ≡ w.0 = omega arith in
-      let at : slice_get first_nodes w.0 ≡ Some (node_first (image w.0 o.node)) =
+      let at : slice_get (first_nodes given) w.0 ≡ Some (node_first (image w.0 o.node)) =
       slice_get-map node_first (numbered 0 image given.placement.nodes) w.0
       ∙ ap (option_map node_first) (numbered-at image 0 given.placement.nodes w.0 o.node o.at
       ∙ ap (λ k. Some (image k o.node)) y) in
@@ -153,4 +149,4 @@ module _ (given : Accepted) where
       subst (In host) (sym (parts-are given.program given.placement given.schedule w.0 o.node))
       (in-joined-at (part w.0) 0 given.program.modules kk m host there
       (subst (λ k. In host (part w.0 k m)) (sym z) one)) in
-      in-flat (λ (n : NodeNow). n.parts) first_nodes w.0 (node_first (image w.0 o.node)) host at within
+      in-flat (λ (n : NodeNow). n.parts) (first_nodes given) w.0 (node_first (image w.0 o.node)) host at within

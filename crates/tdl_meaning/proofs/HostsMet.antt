@@ -9,9 +9,9 @@ use Rattle.tdl_verify.specs.Bus.{task_of}
 use Rattle.tdl_gen.specs.Tables.{hosted_of}
 use Rattle.tdl_gen.proofs.TablePlaces.{call_found}
 use Rattle.tdl_gen.proofs.ReleasePlaces.{task_of-is}
-use Rattle.tdl_meaning.proofs.PartsAndBus.{HostTables}
 use Rattle.tdl_meaning.proofs.HostWindowTables.{well_window}
 use Rattle.tdl_meaning.specs.Accepted.{Accepted}
+use Rattle.tdl_meaning.specs.BusTables.{HostTables}
 
 module _ (given : Accepted) where
   -- the task of an invocation, as the bus looks it up
@@ -28,9 +28,9 @@ module _ (given : Accepted) where
 
   -- the compiler's tables of a hosted module are right
   pub host_tables : (gone : ℕ → ℕ → Type 0) (kk : ℕ) (m : Module) → slice_get given.program.modules kk ≡ Some m →
-      HostTables given gone (hosted_of given.schedule kk m)
+      HostTables given (hosted_of given.schedule kk m)
   host_tables gone kk m there = record {
-    text = m;
+    definition = m;
     there = there;
     windows = refl;
     wells = well_window given kk m there (given.well_formed.modules kk m there) (hosted_of given.schedule kk m) refl

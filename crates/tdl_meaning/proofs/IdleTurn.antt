@@ -1,5 +1,5 @@
 -- The turn of a hosted module whose trigger is not due: nothing changes, on the node and in its logical state.
-use Rattle.std.proofs.Common.{◌≡◌, ℕ, suc, ◌+◌, ◌<◌, ◌≤◌, ℤ, List, [], ◌∷◌, ◌++◌, map, Bool, true, false, ◌&&◌, ◌==◌, Some, None, refl, ap, ap₂, sym, ◌∙◌, subst, subst₂, arith}
+use Rattle.std.proofs.Common.{◌≡◌, ℕ, suc, ◌+◌, ◌≤◌, ℤ, List, [], ◌∷◌, ◌++◌, map, Bool, true, false, ◌&&◌, ◌==◌, Some, None, refl, ap, ap₂, sym, ◌∙◌, subst, subst₂, arith}
 use Rattle.std.specs.Prelude.{slice_get, option_map, unwrap_or, if◌then◌else◌}
 use Rattle.std.proofs.lemmas.Bool.{eqb-true, and_parts}
 use Rattle.std.proofs.lemmas.Bool.Decides.{nat_tests}
@@ -13,40 +13,30 @@ use Rattle.tdl_mode.specs.States.{TaskState, ModuleState, look_of}
 use Rattle.tdl_mode.specs.Phases.{has_ended, task_after, phase_one, update_value}
 use Rattle.tdl_mode.specs.Instants.{alone}
 use Rattle.tdl_deploy.specs.Placed.{hosts, sees}
-use Rattle.tdl_deploy.specs.Rows.{listed, committed_outputs, task_port_rows, module_act_rows, module_mode_rows}
+use Rattle.std.specs.Option.{option_to_list}
+use Rattle.tdl_deploy.specs.Rows.{committed_outputs, task_port_rows, module_act_rows, module_mode_rows}
 use Rattle.tdl_trace.specs.Shown.{Shown}
 use Rattle.tdl_image.specs.declared.hosted.Hosted.{Hosted}
-use Rattle.tdl_verify.specs.States.{TaskNow, HostNow, Part, Times, Sensed}
-use Rattle.tdl_verify.specs.Turns.{Spot, due_of}
+use Rattle.tdl_base.specs.Sensed.{Sensed}
+use Rattle.tdl_verify.specs.States.{TaskNow, HostNow, Part, Times}
+use Rattle.tdl_verify.specs.Turns.{due_of}
 use Rattle.tdl_gen.specs.BlockNames.{BlockName, block_number}
 use Rattle.tdl_gen.specs.Tables.{hosted_of}
 use Rattle.tdl_mode.specs.WellFormed.{WellModule}
-use Rattle.tdl_meaning.proofs.HostFacts.{TaskPairs, covers_of, TaskPair, pairs_outputs, HostFacts, HostAfter, worst_of}
+use Rattle.tdl_meaning.proofs.HostFacts.{pairs_outputs}
 use Rattle.tdl_verify.proofs.EndBlocks.{committed, ended_tasks}
-use Rattle.tdl_meaning.proofs.PhasesAtOffset.{Stands, present-is, ends_here, ends_pairs}
+use Rattle.tdl_meaning.proofs.PhasesAtOffset.{AtOffset, present-is, ends_here, ends_pairs}
 use Rattle.tdl_base.proofs.Finding.{any-passing}
 use Rattle.tdl_mode.proofs.Resting.{not_ended, phase_one-idle, not_updated, alone_idle}
-use Rattle.tdl_verify.proofs.Leads.{nothing}
 use Rattle.tdl_mode.proofs.NextOffsets.{period_offset, end_offset}
-use Rattle.tdl_verify.proofs.Sweeps.{Move}
+unfoldable pub use Rattle.tdl_verify.proofs.Sweeps.{idle_move}
 use Rattle.tdl_gen.proofs.HostMoves.{Apart, Sees}
 use Rattle.tdl_meaning.proofs.PhaseFour.{Timely, AllCovered, lets_of}
 use Rattle.tdl_meaning.proofs.PartMoves.{Any}
 use Rattle.tdl_meaning.proofs.HostTurns.{no_mode_row, outputs-map, HostTurn}
 use Rattle.tdl_meaning.specs.Accepted.{Accepted}
-
--- a move that changes nothing
-unfoldable pub idle_move : (x node : ℕ) (sensed : Sensed) (times : Times) (phase : ℕ) (Fit : List Part → Type 0)
-    (p : Part) → ((q : ℕ) → q < suc phase → (n : ℕ) → due_of x q n p ≡ []) → Move x node sensed times phase Fit
-idle_move x node sensed times phase Fit p quiet = record {
-  before = p;
-  after = p;
-  rows = [];
-  cost = 0;
-  leads = λ front back fit low none. nothing x node sensed times 0 Spot.Between (front ++ p ∷ back);
-  fits = λ front back fit. fit;
-  below = quiet;
-}
+use Rattle.tdl_deploy.specs.AtRelease.{worst_case_of}
+use Rattle.tdl_meaning.specs.HostInStep.{TaskPairs, covers_of, TaskPair, HostFacts, HostAfter}
 
 -- where no task ends, all stay as they are
 ended-none : (p : ℕ → Bool) → ((t : ℕ) → p t ≡ false) → (n : ℕ) (ws : List TaskNow) → ended_tasks p n ws ≡ ws
@@ -73,16 +63,17 @@ module _ (given : Accepted) (kk : ℕ) (m : Module) (wm : WellModule given.progr
       joined (numbered n (task_port_rows given.program given.placement node x kk r) us) ≡ []
   no_port_rows r none n [] = refl
   no_port_rows r none n (u ∷ us) =
-      ap₂ (λ b rest. (if b then (if sees given.program given.placement node kk u.text
+      ap₂ (λ b rest. (if b then (if sees given.program given.placement node kk u.definition
       then committed_outputs x node kk n (task_after r x u) else []) else []) ++ rest)
       (none u) (no_port_rows r none (suc n) us)
 
   -- where no actuator is updated, no rows of actuators are shown
   no_act_rows : (r : ModuleState) (look : Look) → ((a : ℕ) → update_value r x look a ≡ None) → (n : ℕ) (vs : List ℤ) →
       joined (numbered n
-      (λ a old. listed (option_map (λ v. Shown.Updated x node kk a v) (update_value r x look a))) vs) ≡ []
+      (λ a old. option_to_list (option_map (λ v. Shown.Act x node kk a v) (update_value r x look a))) vs) ≡ []
   no_act_rows r look none n [] = refl
-  no_act_rows r look none n (v ∷ vs) = ap₂ (λ o rest. listed (option_map (λ v. Shown.Updated x node kk n v) o) ++ rest)
+  no_act_rows r look none n (v ∷ vs) =
+      ap₂ (λ o rest. option_to_list (option_map (λ v. Shown.Act x node kk n v) o) ++ rest)
       (none n) (no_act_rows r look none (suc n) vs)
 
   -- a hosted module whose trigger is not due makes its turn in step with its logical instant
@@ -95,23 +86,23 @@ module _ (given : Accepted) (kk : ℕ) (m : Module) (wm : WellModule given.progr
       let o : ℕ = f.offset in
       let mode : Mode = g.mode in
       let covers : ℕ → ℕ → ℕ = covers_of k h in
-      let stands : Stands m k o x mode g.at r = record { text = g.text; mode' = refl; now = f.now } in
-      let is : slice_get r.text.modes r.mode ≡ Some mode = present-is m k o x mode g.at r stands in
+      let stands : AtOffset m k o x mode g.at r = record { definition = g.definition; mode' = refl; now = f.now } in
+      let is : slice_get r.definition.modes r.mode ≡ Some mode = present-is m k o x mode g.at r stands in
       let off : is_offset mode o ≡ false = none_here (is_offset mode o) refl in
       let look : Look = look_of kk (phase_one x r).tasks sensed seen in
       let same : map (λ (w : TaskNow). w.outputs) s.tasks ≡ map (λ (u : TaskState). u.outputs) r.tasks =
-      pairs_outputs (λ t u w. TaskPair k mode covers (worst_of m) t o o u w) 0 r.tasks s.tasks
+      pairs_outputs (λ t u w. TaskPair k mode covers (worst_case_of m) t o o u w) 0 r.tasks s.tasks
       (λ n u w a. a.outputs) g.tasks in
       let one : phase_one x r ≡ r = phase_one-idle x o mode r is f.now off in
       let all : alone kk x sensed seen r ≡ r = alone_idle x o mode r is f.now off kk sensed seen in
       let apart' : (r.base + g.next == x) ≡ false = moved_later r.base g.next x o f.now later in
       let quiet : (q n : ℕ) → due_of x q n (Part.Host h s) ≡ [] =
       not_due s (r.base + g.next) (block_number m (BlockName.Ends k g.next)) g.trigger apart' in
-      let here : ℕ → Bool = ends_here m k o x mode g.at covers (worst_of m) in
+      let here : ℕ → Bool = ends_here m k o x mode g.at covers (worst_case_of m) in
       let none : (t : ℕ) → here t ≡ false = λ t. none_ends t (here t) refl off in
-      let pairs : TaskPairs k mode covers (worst_of m) (suc o) o 0 (phase_one x r).tasks
+      let pairs : TaskPairs k mode covers (worst_case_of m) (suc o) o 0 (phase_one x r).tasks
       (ended_tasks here 0 s.tasks) =
-      ends_pairs m k o x mode g.at covers (worst_of m) r stands
+      ends_pairs m k o x mode g.at covers (worst_case_of m) r stands
       (lets_of given.program kk m k mode covers (wm.modes k mode g.at) (covered k mode g.at)) 0 r.tasks s.tasks
       g.tasks in
       record {
@@ -139,7 +130,7 @@ module _ (given : Accepted) (kk : ℕ) (m : Module) (wm : WellModule given.progr
             facts = record {
               mode = mode;
               at = g.at;
-              text = g.text;
+              definition = g.definition;
               above = omega arith;
               within = less o mode.period.0 g.within
                   (λ e. absurd (cc (off, ap (is_offset mode) e, period_offset mode)));
@@ -153,8 +144,8 @@ module _ (given : Accepted) (kk : ℕ) (m : Module) (wm : WellModule given.progr
                 least = λ q at le. g.is_next.least q at (omega (arith, le));
               };
               trigger = g.trigger;
-              texts = g.texts;
-              tasks = subst₂ (λ us ws. TaskPairs k mode covers (worst_of m) (suc o) o 0 us ws)
+              definitions = g.definitions;
+              tasks = subst₂ (λ us ws. TaskPairs k mode covers (worst_case_of m) (suc o) o 0 us ws)
                   (ap (λ (q : ModuleState). q.tasks) one) (ended-none here none 0 s.tasks) pairs;
               actuators = g.actuators;
               sizes = g.sizes;
@@ -179,7 +170,7 @@ module _ (given : Accepted) (kk : ℕ) (m : Module) (wm : WellModule given.progr
       none_here false e = e
 
       ends : ℕ → Bool
-      ends = ends_here m r.mode f.offset x f.facts.mode f.facts.at (covers_of r.mode h) (worst_of m)
+      ends = ends_here m r.mode f.offset x f.facts.mode f.facts.at (covers_of r.mode h) (worst_case_of m)
 
       none_ends : (t : ℕ) (b : Bool) → ends t ≡ b → is_offset f.facts.mode f.offset ≡ false → ends t ≡ false
       none_ends t false e off = e
@@ -194,14 +185,7 @@ module _ (given : Accepted) (kk : ℕ) (m : Module) (wm : WellModule given.progr
       moved_later b n x o e l = grind (arith, nat_tests, e, l)
 
       less : (a b : ℕ) → a ≤ b → (a ≡ b → ⊥) → suc a ≤ b
-      less a b le ne = by_test (a == b) refl
-        where
-          by_test : (t : Bool) → (a == b) ≡ t → suc a ≤ b
-          by_test true e = absurd (ne (eqb-true a b e))
-          by_test false e = strictly a b le e
-            where
-              strictly : (a b : ℕ) → a ≤ b → (a == b) ≡ false → suc a ≤ b
-              strictly a b le e = grind (arith, nat_tests, le, e)
+      less a b le ne = grind (arith, le, ne)
 
       past : (a b : ℕ) → (a == b) ≡ false → b ≤ a → suc b ≤ a
       past a b e le = grind (arith, nat_tests, e, le)

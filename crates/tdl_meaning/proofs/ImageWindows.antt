@@ -7,21 +7,23 @@ use Rattle.tdl_deploy.specs.declared.schedule.Schedule.{Schedule}
 use Rattle.tdl_deploy.specs.declared.schedule.Window.{Window}
 use Rattle.tdl_image.specs.declared.hosted.ImageWindow.{ImageWindow}
 use Rattle.tdl_deploy.specs.Passes.{is_bus}
-use Rattle.tdl_gen.specs.Tables.{image_window, is_before, placed, ordered_from, windows_of}
+use Rattle.tdl_base.specs.Lists.{inserted}
+use Rattle.tdl_gen.specs.Tables.{image_window, is_before, ordered_from, windows_of}
 use Rattle.tdl_verify.proofs.Covered.{unit}
 use Rattle.tdl_meaning.proofs.FilterCounts.{length-filter-cons, length-filter-map-filter, filter-some, some-passes}
 
 -- a window that is put in its place counts like one in front
 placed-count : (q : ImageWindow → Bool) (w : ImageWindow) (vs : List ImageWindow) →
-    length (filter q (placed w vs)) ≡ unit (q w) + length (filter q vs)
+    length (filter q (inserted is_before w vs)) ≡ unit (q w) + length (filter q vs)
 placed-count q w [] = length-filter-cons q w []
 placed-count q w (v ∷ vs) = by_test (placed-count q w vs) (is_before w v)
   where
-    by_test : length (filter q (placed w vs)) ≡ unit (q w) + length (filter q vs) → (b : Bool) →
-        length (filter q (if b then w ∷ v ∷ vs else v ∷ placed w vs)) ≡ unit (q w) + length (filter q (v ∷ vs))
+    by_test : length (filter q (inserted is_before w vs)) ≡ unit (q w) + length (filter q vs) → (b : Bool) →
+        length (filter q (if b then w ∷ v ∷ vs else v ∷ inserted is_before w vs))
+        ≡ unit (q w) + length (filter q (v ∷ vs))
     by_test rest true = length-filter-cons q w (v ∷ vs)
     by_test rest false =
-        let a = length-filter-cons q v (placed w vs) in
+        let a = length-filter-cons q v (inserted is_before w vs) in
         let b = length-filter-cons q v vs in
         omega (arith, rest, a, b)
 
@@ -30,17 +32,18 @@ ordered-count : (q : ImageWindow → Bool) (done ws : List ImageWindow) →
     length (filter q (ordered_from done ws)) ≡ length (filter q done) + length (filter q ws)
 ordered-count q done [] = omega arith
 ordered-count q done (w ∷ ws) =
-    let a = ordered-count q (placed w done) ws in
+    let a = ordered-count q (inserted is_before w done) ws in
     let b = placed-count q w done in
     let c = length-filter-cons q w ws in
     omega (arith, a, b, c)
 
 -- the windows of an image that pass a test are as many as those of the schedule
-pub windows-count : (s : Schedule) (m : ℕ) (q : ImageWindow → Bool) →
-    length (filter q (windows_of s m)) ≡ length (filter (λ w. w.module.0 == m && q (image_window w)) s.windows)
-windows-count s m q =
-    let a = ordered-count q [] (map image_window (filter (λ w. w.module.0 == m) s.windows)) in
-    let b = length-filter-map-filter (λ w. w.module.0 == m) image_window q s.windows in
+pub windows-count : (schedule : Schedule) (m : ℕ) (q : ImageWindow → Bool) →
+    length (filter q (windows_of schedule m))
+    ≡ length (filter (λ w. w.module.0 == m && q (image_window w)) schedule.windows)
+windows-count schedule m q =
+    let a = ordered-count q [] (map image_window (filter (λ w. w.module.0 == m) schedule.windows)) in
+    let b = length-filter-map-filter (λ w. w.module.0 == m) image_window q schedule.windows in
     omega (arith, a, b)
 
 -- v is a bus window with the fields of w

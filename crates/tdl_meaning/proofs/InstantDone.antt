@@ -3,29 +3,33 @@ use Rattle.std.proofs.Common.{◌≡◌, ℕ, suc, ◌+◌, List, [], ◌++◌, 
 use Rattle.std.specs.Prelude.{ℤ, slice_get}
 use Rattle.tdl_base.specs.declared.numbers.PortKey.{PortKey}
 use Rattle.tdl_mode.specs.declared.program.Module.{Module}
-use Rattle.tdl_mode.specs.States.{ModuleState, Sensed}
+use Rattle.tdl_base.specs.Sensed.{Sensed}
+use Rattle.tdl_mode.specs.States.{ModuleState}
 use Rattle.tdl_trace.specs.Shown.{Shown}
 use Rattle.tdl_verify.specs.States.{Part, NodeNow, Times}
 use Rattle.tdl_verify.specs.Runs.{System, Sending, Now, Lost, Turns, landed, all_turns, instant, is_plain}
-use Rattle.tdl_meaning.proofs.EntriesDelivered.{Loses}
 use Rattle.tdl_verify.proofs.NodeSends.{all_parts}
 use Rattle.tdl_meaning.proofs.Deliveries.{part_landed, landed-parts, NodeStep, AllSteps, all_steps}
 use Rattle.tdl_base.proofs.SideBySide.{Zip}
-use Rattle.tdl_meaning.proofs.PartsAndBus.{PartBefore, PartBehind, BusFacts, Parts, stand, logic_after, Stepped, parts_turned}
-use Rattle.tdl_meaning.proofs.InstantSends.{SendsDone, sends_done}
+use Rattle.tdl_meaning.proofs.PartsAndBus.{stand, parts_turned}
+use Rattle.tdl_meaning.specs.OneNode.{logic_after, Stepped}
+use Rattle.tdl_meaning.proofs.InstantSends.{sends_done}
+use Rattle.tdl_meaning.specs.BusTurn.{SendsDone}
 use Rattle.tdl_meaning.specs.Accepted.{Accepted}
+use Rattle.tdl_meaning.specs.BusFrames.{Loses, BusFacts}
+use Rattle.tdl_meaning.specs.PartFacts.{PartBefore, PartAfterTurn, Parts}
 
 module _ (given : Accepted) (gone : ℕ → ℕ → Type 0) (x : ℕ) (sensed : Sensed) (times : Times) (lost : Lost)
     (seen : ℕ → PortKey → ℤ) (logic : ℕ → ModuleState) where
-  -- the logical state of each module behind x
+  -- the logical state of each module after x
   abbrev pub next : ℕ → ModuleState
-  next = logic_after given gone x sensed seen logic
+  next = logic_after x sensed seen logic
 
   -- the turn of one part
   abbrev pub Steps : Part → Part → Type 0
-  Steps = Stepped given gone x sensed seen logic
+  Steps = Stepped given x sensed seen logic
 
-  -- the system behind the instant
+  -- the system after the instant
   pub record InstantDone (ran : List Shown) (sys : System) : Type 0 where
     pub after : System
     pub rows : List Shown
@@ -36,12 +40,12 @@ module _ (given : Accepted) (gone : ℕ → ℕ → Type 0) (x : ℕ) (sensed : 
     pub turns : all_turns x sensed times 0 (landed x lost sys.nodes sys.flight) ≡ Turns.All after.nodes rows
     pub shown : filter is_plain sent ≡ []
     pub stepped : Zip Steps (map (part_landed x lost sys.flight) (all_parts sys.nodes)) (all_parts after.nodes)
-    pub parts : Parts given gone (PartBehind given gone x next) (all_parts after.nodes)
-    pub bus : BusFacts given gone (suc x) next after.flight
+    pub parts : Parts given (PartAfterTurn given gone x next) (all_parts after.nodes)
+    pub bus : BusFacts given (suc x) next after.flight
 
   -- an instant ends without a trap, where each node's turn steps its parts and each frame that is lost takes its commit
   pub instant_done : (ran : List Shown) (sys : System) →
-      Parts given gone (PartBefore given gone x logic) (all_parts sys.nodes) → BusFacts given gone x logic sys.flight →
+      Parts given (PartBefore given gone x logic) (all_parts sys.nodes) → BusFacts given x logic sys.flight →
       ((kk : ℕ) (m : Module) → slice_get given.program.modules kk ≡ Some m →
       Loses lost (gone kk) m kk x (logic kk) sys.flight) →
       ((j : ℕ) (n : NodeNow) → slice_get (landed x lost sys.nodes sys.flight) j ≡ Some n →
@@ -58,7 +62,7 @@ module _ (given : Accepted) (gone : ℕ → ℕ → Type 0) (x : ℕ) (sensed : 
       let pa = parts_turned given gone x sensed seen logic lost sys.flight bus loses (all_parts sys.nodes)
       (all_parts t.after) ps z in
       let stands = stand given gone x logic (all_parts sys.nodes) ps in
-      let d : SendsDone given gone x sensed seen logic stands sys.flight bus (all_parts t.after) pa t.after sys.sent =
+      let d : SendsDone given x next sys.flight t.after sys.sent =
       sends_done given gone x sensed seen logic stands sys.flight bus (all_parts t.after) pa t.after sys.sent
       refl in
       record {

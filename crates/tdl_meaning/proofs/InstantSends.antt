@@ -1,46 +1,48 @@
 -- The sends of an instant trap on no node whatever is lost, and keep what is known of the bus.
-use Rattle.std.proofs.Common.{◌≡◌, ℕ, zero, suc, ◌+◌, ◌<◌, ◌≤◌, List, [], ◌∷◌, filter, length, Bool, true, false, ◌==◌, Option, Some, None, refl, ap, sym, ◌∙◌, subst, arith}
+use Rattle.std.proofs.Common.{◌≡◌, ℕ, zero, suc, ◌+◌, ◌<◌, ◌≤◌, List, [], ◌∷◌, length, Bool, true, false, ◌==◌, Option, Some, None, refl, ap, sym, ◌∙◌, subst, arith}
 use Rattle.std.specs.Prelude.{ℤ, slice_get, if◌then◌else◌, flat_map}
 use Rattle.std.proofs.lemmas.Bool.{eqb-true}
 use Rattle.std.proofs.lemmas.Bool.Decides.{nat_tests}
 use Rattle.std.proofs.lemmas.Option.{same_Some}
 use Rattle.tdl_base.specs.declared.numbers.PortKey.{PortKey}
 use Rattle.tdl_mode.specs.declared.program.Module.{Module}
-use Rattle.tdl_mode.specs.States.{ModuleState, Sensed}
-use Rattle.tdl_trace.specs.Shown.{Shown}
+use Rattle.tdl_base.specs.Sensed.{Sensed}
+use Rattle.tdl_mode.specs.States.{ModuleState}
 use Rattle.tdl_frame.specs.Frames.{Frame}
 use Rattle.tdl_image.specs.declared.hosted.ImageWindow.{ImageWindow}
 use Rattle.tdl_verify.specs.States.{Part, NodeNow}
 use Rattle.tdl_verify.specs.Bus.{Flight, Start, starts}
-use Rattle.tdl_verify.specs.Runs.{Sending, Sends, still_flying, all_sends, is_plain}
+use Rattle.tdl_verify.specs.Runs.{still_flying, all_sends}
 use Rattle.tdl_gen.specs.Tables.{windows_of}
 use Rattle.tdl_verify.proofs.NodeSends.{all_starts, sends_none, sends_one, all_parts, starts-parts}
 use Rattle.tdl_base.proofs.ListPlaces.{only-one, none-in}
 use Rattle.std.proofs.lemmas.List.{nil_from_length}
 use Rattle.tdl_meaning.proofs.ActiveJobs.{Standing, same_cycle, well_modes}
-use Rattle.tdl_meaning.proofs.FramesOnBus.{Carries, flight_kept}
-use Rattle.tdl_meaning.proofs.EntriesDelivered.{Under, UnderWay}
+use Rattle.tdl_meaning.proofs.FramesOnBus.{flight_kept}
 use Rattle.tdl_meaning.proofs.OneStart.{one_start_all}
 use Rattle.tdl_meaning.proofs.BusStarts.{ModeWindow, part_starts, on_bus, Starting, starting, SomeStart, some_start, no_start_flying}
-use Rattle.tdl_meaning.proofs.PartsAndBus.{PartBehind, FlightFact, BusFacts, Parts, logic_after}
+use Rattle.tdl_meaning.specs.OneNode.{logic_after}
 use Rattle.tdl_meaning.specs.Accepted.{Accepted}
+use Rattle.tdl_meaning.specs.BusFrames.{Carries, Under, UnderWay, FlightFact, BusFacts}
+use Rattle.tdl_meaning.specs.PartFacts.{PartAfterTurn, Parts}
+use Rattle.tdl_meaning.specs.BusTurn.{SendsDone}
 
 module _ (given : Accepted) (gone : ℕ → ℕ → Type 0) (x : ℕ) (sensed : Sensed) (seen : ℕ → PortKey → ℤ)
     (logic : ℕ → ModuleState)
     (stands : (kk : ℕ) (m : Module) → slice_get given.program.modules kk ≡ Some m → Standing m x (logic kk))
-    (flight : Option Flight) (bus : BusFacts given gone x logic flight) (after : List Part)
-    (behind : Parts given gone (PartBehind given gone x (logic_after given gone x sensed seen logic)) after) where
-  -- the logical state of each module behind x
+    (flight : Option Flight) (bus : BusFacts given x logic flight) (after : List Part)
+    (known_after : Parts given (PartAfterTurn given gone x (logic_after x sensed seen logic)) after) where
+  -- the logical state of each module after x
   abbrev next : ℕ → ModuleState
-  next = logic_after given gone x sensed seen logic
+  next = logic_after x sensed seen logic
 
   -- the starts of all parts
   abbrev list : List Start
-  list = part_starts given gone x next after behind
+  list = part_starts given gone x next after known_after
 
   -- the frame of a bus window that starts at x
   abbrev Fresh : ℕ → Module → ImageWindow → Type 0
-  Fresh = Starting given gone x next after behind
+  Fresh = Starting given gone x next after known_after
 
   -- a frame that stays on the bus
   abbrev Flying : Flight → Type 0
@@ -48,7 +50,7 @@ module _ (given : Accepted) (gone : ℕ → ℕ → Type 0) (x : ℕ) (sensed : 
 
   -- ---- what was on the bus before
 
-  -- a bus window that began before x and goes on behind x has its frame on the bus
+  -- a bus window that began before x and goes on after x has its frame on the bus
   old_under : (kk : ℕ) (m : Module) (w : ImageWindow) → ModeWindow given next kk m w → (next kk).base + w.offset < x →
       suc x ≤ (next kk).base + w.offset + w.length →
       (f : Flight) × Flying f × Carries m kk (suc x) (next kk) w f
@@ -67,12 +69,12 @@ module _ (given : Accepted) (gone : ℕ → ℕ → Type 0) (x : ℕ) (sensed : 
       )
 
   -- a frame that stays keeps its facts
-  kept_fact : (f : Flight) → flight ≡ Some f → x < f.until → FlightFact given gone (suc x) next f
+  kept_fact : (f : Flight) → flight ≡ Some f → x < f.until → FlightFact given (suc x) next f
   kept_fact f is later =
       let q = bus.flies f is in
       record {
         owner = q.owner;
-        text = q.text;
+        definition = q.definition;
         there = q.there;
         is = q.is;
         flies = record {
@@ -80,13 +82,14 @@ module _ (given : Accepted) (gone : ℕ → ℕ → Type 0) (x : ℕ) (sensed : 
           window = q.flies.window;
           at = q.flies.at;
           bus = q.flies.bus;
-          carries = flight_kept q.text (well_modes given q.owner q.text q.there) x (logic q.owner)
-              (stands q.owner q.text q.there) q.owner sensed (seen q.owner) q.owner q.flies.window f q.flies.carries
+          carries = flight_kept q.definition (well_modes given q.owner q.definition q.there) x (logic q.owner)
+              (stands q.owner q.definition q.there) q.owner sensed (seen q.owner) q.owner q.flies.window f
+              q.flies.carries
               later;
         };
       }
 
-  -- a bus window under way behind x has its frame on the bus: where it starts at x, and where it began before
+  -- a bus window under way after x has its frame on the bus: where it starts at x, and where it began before
   under_all : (flight' : Option Flight) →
       ((kk : ℕ) (m : Module) (w : ImageWindow) → Fresh kk m w → Under m kk (suc x) (next kk) w flight') →
       ((kk : ℕ) (m : Module) (w : ImageWindow) (f : Flight) → Flying f → Carries m kk (suc x) (next kk) w f →
@@ -103,24 +106,15 @@ module _ (given : Accepted) (gone : ℕ → ℕ → Type 0) (x : ℕ) (sensed : 
 
       by_time : (b : Bool) → ((next kk).base + w.offset == x) ≡ b → Under m kk (suc x) (next kk) w flight'
       by_time true t =
-          fresh kk m w (starting given gone x next after behind kk m w own (eqb-true ((next kk).base + w.offset) x t))
+          fresh kk m w
+          (starting given gone x next after known_after kk m w own (eqb-true ((next kk).base + w.offset) x t))
       by_time false t =
           let u = old_under kk m w own (below ((next kk).base + w.offset) x t begun) open' in
           old kk m w u.0 u.1 u.2
 
   -- ---- the sends
 
-  -- what is known behind the sends
-  pub record SendsDone (nodes : List NodeNow) (count : ℕ) : Type 0 where
-    pub flight' : Option Flight
-    pub count' : ℕ
-    pub rows : List Shown
-    pub sendings : List Sending
-    pub is : all_sends x 0 nodes (still_flying x flight) count ≡ Sends.Sent flight' count' rows sendings
-    pub shown : filter is_plain rows ≡ []
-    pub facts : BusFacts given gone (suc x) next flight'
-
-  -- the nodes behind the turns have these parts
+  -- the nodes after the turns have these parts
   abbrev Nodes : List NodeNow → Type 0
   Nodes nodes = all_parts nodes ≡ after
 
@@ -134,11 +128,11 @@ module _ (given : Accepted) (gone : ℕ → ℕ → Type 0) (x : ℕ) (sensed : 
 
   -- nothing starts while a frame stays
   done_busy : (nodes : List NodeNow) (count : ℕ) → Nodes nodes → (f : Flight) → flight ≡ Some f → x < f.until →
-      still_flying x flight ≡ Some f → SendsDone nodes count
+      still_flying x flight ≡ Some f → SendsDone given x next flight nodes count
   done_busy nodes count e f is later still =
       let q = kept_fact f is later in
       let sent = (bus.flies f is).flies.carries.begun in
-      let none = no_start_flying given gone x next after behind f q sent later in
+      let none = no_start_flying given gone x next after known_after f q sent later in
       let no_starts : all_starts x nodes ≡ [] = starts-list nodes e ∙ nil_from_length list none in
       record {
         flight' = Some f;
@@ -148,7 +142,7 @@ module _ (given : Accepted) (gone : ℕ → ℕ → Type 0) (x : ℕ) (sensed : 
         is = ap (λ o. all_sends x 0 nodes o count) still ∙ sends_none x 0 nodes (Some f) count no_starts;
         shown = refl;
         facts = record {
-          flies = λ g s. subst (FlightFact given gone (suc x) next) (same_Some f g s) q;
+          flies = λ g s. subst (FlightFact given (suc x) next) (same_Some f g s) q;
           under = under_all (Some f) (λ kk m w s. absurd (not_fresh none kk m w s)) stays;
         };
       }
@@ -163,7 +157,7 @@ module _ (given : Accepted) (gone : ℕ → ℕ → Type 0) (x : ℕ) (sensed : 
 
   -- the bus stays free where nothing starts
   done_none : (nodes : List NodeNow) (count : ℕ) → Nodes nodes → ((f : Flight) → Flying f → ⊥) →
-      still_flying x flight ≡ None → length list ≡ 0 → SendsDone nodes count
+      still_flying x flight ≡ None → length list ≡ 0 → SendsDone given x next flight nodes count
   done_none nodes count e free still none =
       let no_starts : all_starts x nodes ≡ [] = starts-list nodes e ∙ nil_from_length list none in
       record {
@@ -190,13 +184,14 @@ module _ (given : Accepted) (gone : ℕ → ℕ → Type 0) (x : ℕ) (sensed : 
 
   -- where the bus is free, the one frame that starts is sent
   done_one : (nodes : List NodeNow) (count : ℕ) → Nodes nodes → ((f : Flight) → Flying f → ⊥) →
-      still_flying x flight ≡ None → length list ≤ 1 → SomeStart given gone x next after behind → SendsDone nodes count
+      still_flying x flight ≡ None → length list ≤ 1 → SomeStart given gone x next after known_after →
+      SendsDone given x next flight nodes count
   done_one nodes count e free still le f =
       let s = f.starts' in
-      let r = sends_one x 0 nodes count s.frame s.until (starts-list nodes e ∙ one f.kk f.text f.window s) in
-      let fact : FlightFact given gone (suc x) next (flown count s.frame s.until) = record {
+      let r = sends_one x 0 nodes count s.frame s.until (starts-list nodes e ∙ one f.kk f.definition f.window s) in
+      let fact : FlightFact given (suc x) next (flown count s.frame s.until) = record {
         owner = f.kk;
-        text = f.text;
+        definition = f.definition;
         there = f.own.there;
         is = s.owner;
         flies = record {
@@ -215,8 +210,9 @@ module _ (given : Accepted) (gone : ℕ → ℕ → Type 0) (x : ℕ) (sensed : 
         is = ap (λ o. all_sends x 0 nodes o count) still ∙ r.is;
         shown = r.shown;
         facts = record {
-          flies = λ g q. subst (FlightFact given gone (suc x) next) (same_Some (flown count s.frame s.until) g q) fact;
-          under = under_all (Some (flown count s.frame s.until)) (it_is s.frame s.until (one f.kk f.text f.window s))
+          flies = λ g q. subst (FlightFact given (suc x) next) (same_Some (flown count s.frame s.until) g q) fact;
+          under = under_all (Some (flown count s.frame s.until))
+              (it_is s.frame s.until (one f.kk f.definition f.window s))
               (λ kk m w g fl c. absurd (free g fl));
         };
       }
@@ -237,19 +233,20 @@ module _ (given : Accepted) (gone : ℕ → ℕ → Type 0) (x : ℕ) (sensed : 
           }
 
   -- the sends of all nodes end without a trap
-  pub sends_done : (nodes : List NodeNow) (count : ℕ) → Nodes nodes → SendsDone nodes count
+  pub sends_done : (nodes : List NodeNow) (count : ℕ) → Nodes nodes → SendsDone given x next flight nodes count
   sends_done nodes count e = by_flight flight refl
     where
       le : length list ≤ 1
-      le = one_start_all given x after (on_bus given gone x next after behind) behind.once
+      le = one_start_all given x after (on_bus given gone x next after known_after) known_after.once
 
-      free_done : ((f : Flight) → Flying f → ⊥) → still_flying x flight ≡ None → SendsDone nodes count
+      free_done : ((f : Flight) → Flying f → ⊥) → still_flying x flight ≡ None →
+          SendsDone given x next flight nodes count
       free_done free still = by_count (length list) refl
         where
-          by_count : (n : ℕ) → length list ≡ n → SendsDone nodes count
+          by_count : (n : ℕ) → length list ≡ n → SendsDone given x next flight nodes count
           by_count zero q = done_none nodes count e free still q
           by_count (suc n) q =
-              done_one nodes count e free still le (some_start given gone x next after behind (omega (arith, q)))
+              done_one nodes count e free still le (some_start given gone x next after known_after (omega (arith, q)))
 
       later : (a b : ℕ) → a ≤ b → (b == a) ≡ false → a < b
       later a b le ne = grind (arith, nat_tests, le, ne)
@@ -260,7 +257,8 @@ module _ (given : Accepted) (gone : ℕ → ℕ → Type 0) (x : ℕ) (sensed : 
           let lt = fl.1 in
           omega (arith, until, now, lt)
 
-      by_until : (f : Flight) → flight ≡ Some f → (b : Bool) → (f.until == x) ≡ b → SendsDone nodes count
+      by_until : (f : Flight) → flight ≡ Some f → (b : Bool) → (f.until == x) ≡ b →
+          SendsDone given x next flight nodes count
       by_until f is true t =
           free_done (lands f is (eqb-true f.until x t))
           (ap (still_flying x) is ∙ ap (λ b. if b then None else Some f) t)
@@ -268,6 +266,6 @@ module _ (given : Accepted) (gone : ℕ → ℕ → Type 0) (x : ℕ) (sensed : 
           done_busy nodes count e f is (later x f.until ((bus.flies f is).flies.carries.open') t)
           (ap (still_flying x) is ∙ ap (λ b. if b then None else Some f) t)
 
-      by_flight : (o : Option Flight) → flight ≡ o → SendsDone nodes count
+      by_flight : (o : Option Flight) → flight ≡ o → SendsDone given x next flight nodes count
       by_flight None is = free_done (λ g fl. let h = fl.0 in absurd (cc (is, h))) (ap (still_flying x) is)
       by_flight (Some f) is = by_until f is (f.until == x) refl

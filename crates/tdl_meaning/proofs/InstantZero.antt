@@ -1,4 +1,4 @@
--- The run of the compiler's bundle stands behind instant 0, whatever is lost; so no run of it traps.
+-- The run of the compiler's bundle stands after instant 0, whatever is lost; so no run of it traps.
 use Rattle.std.proofs.Common.{◌≡◌, ℕ, suc, ◌+◌, ◌<◌, ℤ, List, [], ◌∷◌, ◌++◌, map, true, ◌&&◌, ◌==◌, Some, None, refl, ap, sym, ◌∙◌, subst, arith}
 use Rattle.std.specs.Prelude.{slice_get, flat_map}
 use Rattle.std.proofs.lemmas.Bool.{eqb-true, and_parts}
@@ -6,7 +6,8 @@ use Rattle.std.proofs.lemmas.List.{length-map}
 use Rattle.tdl_base.specs.Lists.{numbered}
 use Rattle.tdl_base.specs.declared.numbers.PortKey.{PortKey}
 use Rattle.tdl_mode.specs.declared.program.Module.{Module}
-use Rattle.tdl_mode.specs.States.{ModuleState, Course}
+use Rattle.tdl_base.specs.Sensed.{Course}
+use Rattle.tdl_mode.specs.States.{ModuleState}
 use Rattle.tdl_image.specs.declared.bundle.Bundle.{Bundle}
 use Rattle.tdl_image.specs.declared.hosted.ImageWindow.{ImageWindow}
 use Rattle.tdl_verify.specs.States.{Part, NodeNow, Times, node_first, host_first, stub_initials}
@@ -16,24 +17,29 @@ use Rattle.tdl_verify.specs.Runs.{System, Now, Run, IsAlive, Lost, system_first,
 use Rattle.tdl_gen.specs.Tables.{hosted_of, windows_of}
 use Rattle.tdl_gen.specs.Realises.{image_of, bundle_of, IsWithinWorst, HasTables, HasCounts}
 use Rattle.tdl_gen.proofs.OneBundle.{one_bundle}
-use Rattle.tdl_meaning.proofs.EntryFacts.{EntryFact, Got}
-use Rattle.tdl_meaning.proofs.EntryLists.{AllEntries}
 use Rattle.tdl_verify.proofs.NodeSends.{all_parts, sends_none, starts-parts}
 use Rattle.tdl_base.proofs.SideBySide.{zip-left, zip-right}
-use Rattle.tdl_meaning.proofs.PartsAndBus.{HostTables, StubTables, PartBehind, BusFacts, Parts}
 use Rattle.tdl_meaning.proofs.StubTables.{stub_tables}
 use Rattle.tdl_meaning.proofs.ItemPlaces.{flat-none}
-use Rattle.tdl_meaning.proofs.SeenAt.{seen_at, seen_at-is}
-use Rattle.tdl_meaning.proofs.RunSteps.{Stands, Along, along, everything, any_loses}
+use Rattle.tdl_meaning.proofs.SeenAt.{seen_at-is}
+use Rattle.tdl_meaning.specs.SystemStands.{seen_at, TakesAlong, Begun, Stands, Along, first_nodes}
+use Rattle.tdl_meaning.proofs.RunSteps.{along, any_losses, any_takes}
+use Rattle.tdl_meaning.specs.Conditions.{Conditions, Losses, Gone}
 use Rattle.tdl_meaning.proofs.ShapesBeforeZero.{first_shapes}
 use Rattle.tdl_meaning.proofs.HostsMet.{host_tables}
 use Rattle.tdl_meaning.proofs.PartsBeforeZero.{PartAt, NodesAt, nodes_at, none_waits, none_got}
-use Rattle.tdl_meaning.proofs.HostedOnce.{first_nodes, hosted_once, hosted_in}
-use Rattle.tdl_meaning.proofs.NodesBoot.{sees_first, logic_first, Started, AllBooted, all_booted}
+use Rattle.tdl_meaning.proofs.HostedOnce.{hosted_once, hosted_in}
+use Rattle.tdl_meaning.proofs.NodesBoot.{start_of as state_of, logic_first, HasStarted, AllBooted, all_booted}
 use Rattle.tdl_mode.proofs.StateLength.{length-numbered}
 use Rattle.tdl_meaning.specs.Accepted.{Accepted}
-use Rattle.tdl_meaning.proofs.Every.{Every, all-at, all-append}
+use Rattle.tdl_meaning.proofs.Every.{all-at, all-append}
 use Rattle.tdl_meaning.proofs.FilterCounts.{filter-none}
+use Rattle.tdl_meaning.specs.Entries.{EntryFact, Got}
+use Rattle.tdl_meaning.specs.AllItems.{AllEntries, Every}
+use Rattle.tdl_meaning.specs.BusTables.{HostTables, StubTables}
+use Rattle.tdl_meaning.specs.PartFacts.{PartAfterTurn, Parts}
+use Rattle.tdl_meaning.specs.BusFrames.{BusFacts}
+use Rattle.tdl_meaning.specs.OneNode.{first_sees}
 
 module _ (given : Accepted) where
   -- a part of some node before instant 0
@@ -55,43 +61,42 @@ module _ (given : Accepted) where
   module _ (course : Course) (times : Times) (within : IsWithinWorst given.program times) where
     -- what each module sees at instant 0
     abbrev pub first_seen : ℕ → PortKey → ℤ
-    first_seen = seen_at given (sees_first given (course 0) times within) 0 (first_nodes given)
+    first_seen = seen_at given first_sees 0 (first_nodes given)
 
-    -- the modules' states behind instant 0
+    -- the modules' states after instant 0
     abbrev pub first_logic : ℕ → ModuleState
     first_logic = logic_first given (course 0) times within first_seen
 
     -- what instant 0 makes of a part
     abbrev pub Starts : Part → Part → Type 0
-    Starts = Started given (course 0) times within first_seen
+    Starts = HasStarted given (course 0) times within first_seen
 
     -- instant 0 of all nodes
     pub booted : AllBooted given (course 0) times within first_seen 0 (first_nodes given)
-        (first_shapes given 0 given.placement.nodes) (nodes_at given 0 given.placement.nodes)
     booted = all_booted given (course 0) times within first_seen 0 (first_nodes given)
         (first_shapes given 0 given.placement.nodes) (nodes_at given 0 given.placement.nodes)
-        (λ i. seen_at-is given (sees_first given (course 0) times within) 0 i (first_nodes given))
+        (λ i. seen_at-is given first_sees 0 i (first_nodes given))
 
-    -- the system behind instant 0
+    -- the system after instant 0
     unfoldable pub first_system : System
     first_system = record { nodes = booted.after; flight = None; sent = 0 }
 
     module _ (gone : ℕ → ℕ → Type 0) where
-      -- what is known of a part behind instant 0
-      abbrev Behind : Part → Type 0
-      Behind = PartBehind given gone 0 first_logic
+      -- what is known of a part after instant 0
+      abbrev AfterTurn : Part → Type 0
+      AfterTurn = PartAfterTurn given gone 0 first_logic
 
       -- it holds of each part that has started
-      behind : (q r : Part) → AnyAt q → Starts q r → Behind r
-      behind (Part.Host h s) r (j, a) (s', is, after) =
-          let tables : HostTables given gone h =
-          subst (HostTables given gone) (sym a.tables) (host_tables given gone h.number.0 a.text a.there) in
-          subst Behind (sym is) (record { tables = tables; facts = after tables.text tables.there })
-      behind (Part.Outside q t) r (j, a) is =
-          let tables : StubTables given gone q = subst (StubTables given gone) (sym a.tables)
-          (stub_tables given gone j q.number.0 a.text a.there a.away a.near) in
-          let m : Module = tables.text in
-          subst Behind (sym is) (record {
+      part_after : (q r : Part) → AnyAt q → Starts q r → AfterTurn r
+      part_after (Part.Host h s) r (j, a) (s', is, after) =
+          let tables : HostTables given h =
+          subst (HostTables given) (sym a.tables) (host_tables given gone h.number.0 a.definition a.there) in
+          subst AfterTurn (sym is) (record { tables = tables; facts = after tables.definition tables.there })
+      part_after (Part.Outside q t) r (j, a) is =
+          let tables : StubTables given q = subst (StubTables given) (sym a.tables)
+          (stub_tables given gone j q.number.0 a.definition a.there a.away a.near) in
+          let m : Module = tables.definition in
+          subst AfterTurn (sym is) (record {
             tables = tables;
             facts = subst (AllEntries (EntryFact m 1 (first_logic q.number.0)) q.entries) (sym a.entries)
                 (none_waits m 1 (first_logic q.number.0) (λ e. stub_initials q e.task) q.entries);
@@ -100,12 +105,12 @@ module _ (given : Accepted) where
                 (λ e. stub_initials q e.task) q.entries tables.receive tables.sender);
           })
 
-      -- all parts behind instant 0 are right, and each module has one host
-      first_right : Parts given gone Behind (all_parts booted.after)
+      -- all parts after instant 0 are right, and each module has one host
+      first_right : Parts given AfterTurn (all_parts booted.after)
       first_right = record {
         each = λ n q at.
             let l = zip-left Starts (all_parts (first_nodes given)) (all_parts booted.after) booted.started n q at in
-            behind l.item q (all-at AnyAt (all_parts (first_nodes given))
+            part_after l.item q (all-at AnyAt (all_parts (first_nodes given))
             (any_all 0 (first_nodes given) (nodes_at given 0 given.placement.nodes)) n l.item l.at) l.holds;
         once = hosted_once given 0 booted.after booted.shapes;
         hosted = λ kk m there.
@@ -127,8 +132,8 @@ module _ (given : Accepted) where
       late kk m there n w at bus =
           let a = ((host_tables given gone kk m there).wells n w at bus).after in omega (arith, a)
 
-      -- the bus behind instant 0 is free
-      first_bus : BusFacts given gone 1 first_logic None
+      -- the bus after instant 0 is free
+      first_bus : BusFacts given 1 first_logic None
       first_bus = record {
         flies = λ f is. absurd (cc is);
         under = λ kk m there n w at bus mode begun open'.
@@ -136,7 +141,7 @@ module _ (given : Accepted) where
       }
 
       -- no part starts a frame at instant 0
-      no_start : (q : Part) → Behind q → starts 0 q ≡ []
+      no_start : (q : Part) → AfterTurn q → starts 0 q ≡ []
       no_start (Part.Outside q t) b = refl
       no_start (Part.Host h s) b =
           ap (map (start_of h s)) (filter-none (starts_at 0 s) h.windows (λ n w at e.
@@ -170,26 +175,44 @@ module _ (given : Accepted) where
     unfolding instant bundle_of first_system
     first_is lost =
         let t = booted.is in
-        let s = sends_none 0 0 booted.after None 0 (starts-parts 0 booted.after ∙ no_starts everything) in
+        let s = sends_none 0 0 booted.after None 0 (starts-parts 0 booted.after ∙ no_starts (λ kk at. Unit {0})) in
         rw (t, s) refl
 
--- the run of a bundle with the compiler's tables and counts has no trap, whatever is lost
-pub never_traps : (given : Accepted) (b : Bundle) → HasTables b given.program given.placement given.schedule →
-    HasCounts b given.program given.placement given.schedule → (horizon : ℕ) (course : Course) (times : Times) →
-    IsWithinWorst given.program times → (lost : Lost) → IsAlive (machine_run b horizon course times lost).now
+-- the run of the compiler's bundle begins in a system that stands
+pub begun : (given : Accepted) (run : Conditions given) (losses : Losses) → Begun given run losses
 unfolding run_to
-never_traps given b tables counts horizon course times within lost =
-    let Alive : ℕ → Run → Type 0 = Along given everything horizon course times within lost (any_loses given lost)
-    (λ x logic s. Unit {0}) (λ x logic s st also. tt) in
-    let first : Alive 0 (run_to (bundle_of given.program given.placement given.schedule) horizon course times lost 0) =
-    record {
-      sys = first_system given course times within;
-      logic = first_logic given course times within;
-      is = ap (λ (r : Run). r.now) (first_is given course times within lost);
-      stands = first_stands given course times within everything;
-      also = tt;
-    } in
-    let a = along given everything horizon course times within lost (any_loses given lost) (λ x logic s. Unit {0})
-    (λ x logic s st also. tt) b (subst (λ c. Alive 0 (run_to c horizon course times lost 0))
-    (sym (one_bundle b given.program given.placement given.schedule tables counts)) first) horizon in
+begun given run losses = record {
+  sys = first_system given run.course run.times run.within;
+  logic = first_logic given run.course run.times run.within;
+  is = ap (λ (r : Run). r.now) (first_is given run.course run.times run.within losses.lost);
+  stands = first_stands given run.course run.times run.within (Gone losses);
+  states = λ kk m there.
+      ap (state_of given (run.course 0) run.times run.within
+      (first_seen given run.course run.times run.within) kk) there;
+}
+
+-- the run of a bundle with the compiler's tables and counts is alive at every instant, and stands, whatever is lost
+pub stands_along : (given : Accepted) (run : Conditions given) (losses : Losses) (bundle : Bundle) →
+    HasTables bundle given.program given.placement given.schedule →
+    HasCounts bundle given.program given.placement given.schedule → TakesAlong given run losses bundle → (x : ℕ) →
+    Along given (Gone losses) (λ x logic s. Unit {0}) x
+    (run_to bundle run.horizon run.course run.times losses.lost x)
+stands_along given run losses bundle tables counts lose =
+    let Alive : Run → Type 0 = Along given (Gone losses) (λ x logic s. Unit {0}) 0 in
+    let f : Begun given run losses = begun given run losses in
+    let compiled : Bundle = bundle_of given.program given.placement given.schedule in
+    let first : Alive (run_to compiled run.horizon run.course run.times losses.lost 0) =
+    record { sys = f.sys; logic = f.logic; is = f.is; stands = f.stands; also = tt } in
+    along given run losses (λ x logic s. Unit {0}) (λ x logic s st also. tt) bundle lose
+    (subst (λ c. Alive (run_to c run.horizon run.course run.times losses.lost 0))
+    (sym (one_bundle bundle given.program given.placement given.schedule tables counts)) first)
+
+-- so it has no trap, whatever is lost
+pub never_traps : (given : Accepted) (bundle : Bundle) → HasTables bundle given.program given.placement given.schedule →
+    HasCounts bundle given.program given.placement given.schedule → (horizon : ℕ) (course : Course) (times : Times) →
+    IsWithinWorst given.program times → (lost : Lost) → IsAlive (machine_run bundle horizon course times lost).now
+never_traps given bundle tables counts horizon course times within lost =
+    let run : Conditions given = record { horizon = horizon; course = course; times = times; within = within } in
+    let a = stands_along given run (any_losses lost) bundle tables counts
+    (λ x logic s is stands. any_takes given lost (suc x) logic s.flight) horizon in
     subst IsAlive (sym a.is) tt

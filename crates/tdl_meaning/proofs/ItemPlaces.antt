@@ -3,7 +3,7 @@ use Rattle.std.proofs.Common.{◌≡◌, ℕ, zero, suc, ◌+◌, ◌<◌, List,
 use Rattle.std.specs.Prelude.{slice_get, unwrap_or, flat_map, find}
 use Rattle.std.specs.List.{list_any}
 use Rattle.tdl_base.specs.Lists.{joined, numbered}
-use Rattle.tdl_base.proofs.ListPlaces.{In, in-front, in-behind}
+use Rattle.tdl_base.proofs.ListPlaces.{In, in-front, in-back}
 use Rattle.std.proofs.lemmas.Bool.{or_left, or_right, and_parts}
 use Rattle.std.proofs.lemmas.Option.{same_Some}
 use Rattle.tdl_base.proofs.Among.{Found, any-found}
@@ -39,7 +39,7 @@ in-joined-at f n (x ∷ xs) zero a b at w =
     (subst (λ k. In b (f k x)) z (subst (λ c. In b (f (n + 0) c)) (sym (same_Some x a at)) w))
 in-joined-at f n (x ∷ xs) (suc i) a b at w =
     let z : n + suc i ≡ suc n + i = omega arith in
-    in-behind b (f n x) (joined (numbered (suc n) f xs))
+    in-back b (f n x) (joined (numbered (suc n) f xs))
     (in-joined-at f (suc n) xs i a b at (subst (λ k. In b (f k a)) z w))
 
 -- where each item gives nothing, all give nothing

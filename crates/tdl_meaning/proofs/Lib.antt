@@ -22,11 +22,11 @@ pub mod BootTurn
 -- ---- its microsecond, and the windows of its node
 pub mod TaskMicros
 pub mod HostMicro
+pub mod WindowsCover
 pub mod CoveredWindows
 pub mod WindowsApart
 pub mod OneLive
 -- ---- the turn of a node of hosted modules and stubs
-pub mod TakeCounts
 pub mod PartMoves
 pub mod PartsTurn
 pub mod PartsBoot
@@ -45,7 +45,6 @@ pub mod WindowSends
 pub mod ImageWindows
 pub mod BusWindowsApart
 pub mod BusWindowTables
-pub mod WindowsCover
 pub mod HostWindowTables
 pub mod HostsMet
 pub mod EntryOrder
@@ -68,11 +67,13 @@ pub mod JobTimes
 pub mod Delivered
 pub mod NodeTurn
 pub mod NodeTurns
+pub mod BusLaw
 -- ---- instant 0, and the run that never traps
 pub mod ShapesBeforeZero
 pub mod PartsBeforeZero
 pub mod HostedOnce
 pub mod NodesBoot
+pub mod NodeLaw
 pub mod RunSteps
 pub mod InstantZero
 pub mod RowsAtZero

@@ -1,5 +1,6 @@
 -- The parts of a node, in the compiler's order: which module each is of, and that each import of a hosted module has
 -- one.
+use Rattle.tdl_gen.specs.Realises.{part_at}
 use Rattle.std.proofs.Common.{◌≡◌, ℕ, zero, suc, ◌+◌, List, [], ◌∷◌, ◌++◌, Bool, true, false, ◌==◌, Option, Some, refl, ap, sym, ◌∙◌, subst, subst₂, inl, inr, arith}
 use Rattle.std.specs.Prelude.{◌⊎◌, slice_get, unwrap_or, option_map, if◌then◌else◌}
 use Rattle.std.proofs.lemmas.Bool.{eqb-true}
@@ -7,21 +8,20 @@ use Rattle.std.proofs.lemmas.Option.{slice_get_within, same_Some}
 use Rattle.tdl_base.specs.Lists.{joined, numbered}
 use Rattle.tdl_base.specs.declared.numbers.ModuleId.{ModuleId}
 use Rattle.tdl_mode.specs.declared.program.Module.{Module}
-use Rattle.tdl_deploy.specs.Placed.{hosts, hosted_on, imports}
+use Rattle.tdl_deploy.specs.Placed.{hosts, modules_on, imports}
 use Rattle.tdl_mode.specs.Imports.{imports_of, is_among}
 use Rattle.tdl_image.specs.declared.hosted.Hosted.{Hosted}
 use Rattle.tdl_image.specs.declared.stub.Stub.{Stub}
 use Rattle.tdl_verify.specs.States.{HostNow, Part, NodeNow, part_number, host_first, stub_first}
 use Rattle.tdl_gen.specs.Tables.{hosted_of, stub_of, stub_tasks}
-use Rattle.tdl_gen.proofs.PartOrder.{part_at}
 use Rattle.tdl_verify.proofs.NodeSends.{all_parts}
 use Rattle.tdl_base.proofs.ListPlaces.{In}
 use Rattle.tdl_meaning.proofs.MappedLists.{map-at, map-to}
-use Rattle.tdl_meaning.proofs.NodeShapes.{first_of, Ordered, Shape, Shapes}
 use Rattle.tdl_meaning.proofs.PartsBeforeZero.{PartAt, parts_at}
 use Rattle.tdl_meaning.proofs.ItemPlaces.{item_at, in-joined-at, any-weak}
 use Rattle.tdl_meaning.specs.Accepted.{Accepted}
 use Rattle.tdl_meaning.proofs.Every.{all-at}
+use Rattle.tdl_meaning.specs.NodeShape.{first_part, Ordered, Shape, Shapes}
 
 -- a part of two lists is of the one or of the other
 split-at : (xs ys : List Part) (n : ℕ) (q : Part) → slice_get (xs ++ ys) n ≡ Some q → In q xs ⊎ In q ys
@@ -34,7 +34,7 @@ split-at (x ∷ xs) ys (suc n) q at = by_side (split-at xs ys n q at)
     by_side (inr i) = inr i
 
 -- a part keeps its number
-number-first : (q : Part) → part_number (first_of q) ≡ part_number q
+number-first : (q : Part) → part_number (first_part q) ≡ part_number q
 number-first (Part.Host h s) = refl
 number-first (Part.Outside q t) = refl
 
@@ -50,7 +50,7 @@ module _ (given : Accepted) where
       any-weak (λ (d : ModuleId). d.0 == kk) (λ (d : ModuleId). is_among i (imports_of given.program d.0))
       (λ d e. ap (λ k. is_among i (imports_of given.program k)) (eqb-true d.0 kk e)
       ∙ ap (λ (o : Option Module). is_among i (unwrap_or (option_map (λ d. d.imports) o) [])) there ∙ among)
-      (hosted_on given.placement j) h
+      (modules_on given.placement j) h
 
   -- a part of a module on a node
   record HasPart (j i : ℕ) : Type 0 where
@@ -101,17 +101,17 @@ module _ (given : Accepted) where
       let before = (given.well_formed.modules kk m there).imports i among in
       let e = item_at given.program.modules i (omega (arith, below, before)) in
       let f = has_part j i e.item e.at (imported j kk i m there h among) in
-      let w = map-at first_of qs f.within.place f.item (ap (λ l. slice_get l f.within.place) order ∙ f.within.at) in
+      let w = map-at first_part qs f.within.place f.item (ap (λ l. slice_get l f.within.place) order ∙ f.within.at) in
       (f.within.place, w.item, w.at, sym (number-first w.item) ∙ ap part_number (sym w.is) ∙ f.number)
 
   -- each part of a node is, but for its state, one of the compiler's
   pub each_at : (j : ℕ) (qs : List Part) → Ordered given j qs → (n : ℕ) (q : Part) → slice_get qs n ≡ Some q →
-      PartAt given j (first_of q)
+      PartAt given j (first_part q)
   each_at j qs order n q at =
       all-at (PartAt given j) (parts_of j)
       (parts_at given j 0 given.program.modules (λ i m e. let z : 0 + i ≡ i = omega arith in
-      ap (slice_get given.program.modules) z ∙ e)) n (first_of q)
-      (ap (λ l. slice_get l n) (sym order) ∙ map-to first_of qs n q at)
+      ap (slice_get given.program.modules) z ∙ e)) n (first_part q)
+      (ap (λ l. slice_get l n) (sym order) ∙ map-to first_part qs n q at)
 
   -- a stub has the public tasks of its module
   abbrev pub TasksOf : Part → Type 0
@@ -120,10 +120,10 @@ module _ (given : Accepted) where
       q.tasks ≡ stub_tasks m
 
   -- so has each of the compiler's
-  pub tasks_of : (j : ℕ) (q : Part) → PartAt given j (first_of q) → TasksOf q
+  pub tasks_of : (j : ℕ) (q : Part) → PartAt given j (first_part q) → TasksOf q
   tasks_of j (Part.Host h s) a = tt
   tasks_of j (Part.Outside q t) a =
-      λ m at. ap (λ (s : Stub). s.tasks) a.tables ∙ ap stub_tasks (same_Some a.text m (sym a.there ∙ at))
+      λ m at. ap (λ (s : Stub). s.tasks) a.tables ∙ ap stub_tasks (same_Some a.definition m (sym a.there ∙ at))
 
   -- the node of a host
   pub record NodeWith (k : ℕ) (nodes : List NodeNow) (h : Hosted) : Type 0 where

@@ -1,11 +1,12 @@
--- The rows of a node behind delivery, at an instant above 0, are what it sees of the logical instant.
+-- The rows of a node after delivery, at an instant above 0, are what it sees of the logical instant.
 use Rattle.std.proofs.Common.{◌≡◌, ℕ, suc, ◌+◌, ℤ, pos, List, [], ◌∷◌, ◌++◌, map, length, Bool, true, false, ◌==◌, Some, refl, ap, ap₂, sym, ◌∙◌, subst, arith}
 use Rattle.std.specs.Prelude.{slice_get, flat_map, if◌then◌else◌}
 use Rattle.tdl_base.specs.Lists.{joined, numbered}
 use Rattle.tdl_base.specs.declared.numbers.PortKey.{PortKey}
 use Rattle.tdl_mode.specs.declared.program.Program.{Program}
 use Rattle.tdl_mode.specs.declared.program.Module.{Module}
-use Rattle.tdl_mode.specs.States.{ModuleState, State, Sensed, outputs_in, look_of}
+use Rattle.tdl_base.specs.Sensed.{Sensed}
+use Rattle.tdl_mode.specs.States.{ModuleState, State, outputs_in, look_of}
 use Rattle.tdl_mode.specs.Phases.{phase_one}
 use Rattle.tdl_mode.specs.Instants.{alone, logical}
 use Rattle.tdl_deploy.specs.declared.placement.Placement.{Placement}
@@ -23,24 +24,24 @@ use Rattle.tdl_base.proofs.NumberedLists.{numbered-map}
 use Rattle.tdl_gen.proofs.HostMoves.{Apart}
 use Rattle.tdl_gen.proofs.StubMoves.{taken_rows}
 use Rattle.tdl_meaning.proofs.OneLive.{ascends-apart}
-use Rattle.tdl_meaning.proofs.PartsTurn as one
 use Rattle.tdl_meaning.proofs.ActiveJobs.{well_modes}
-use Rattle.tdl_meaning.proofs.EntryFacts.{EntryFact, Got}
-use Rattle.tdl_meaning.proofs.EntryLists.{AllEntries}
 use Rattle.tdl_meaning.proofs.StubRows.{Grouped, stub_rows}
 use Rattle.tdl_meaning.proofs.EntriesByTask.{grouped}
 use Rattle.tdl_meaning.proofs.NodePortRows.{ports_right}
 use Rattle.tdl_meaning.proofs.StubTables.{remote-is}
 use Rattle.tdl_mode.proofs.Seeing.{alone_same}
-use Rattle.tdl_meaning.proofs.PartsAndBus.{StubFacts, PartBefore, Parts, stand, jobs_active, texts_of}
+use Rattle.tdl_meaning.proofs.PartsAndBus.{stand, jobs_active, texts_of}
 use Rattle.std.proofs.lemmas.Option.{same_Some}
-use Rattle.tdl_meaning.proofs.NodeShapes.{first_of, Ordered, NodeShape}
-use Rattle.tdl_meaning.proofs.NodeTurn.{timely, sees, phase_rows, node_shows}
+use Rattle.tdl_meaning.specs.OneNode.{node_sees, port_rows_of, act_rows_of, mode_rows_of, node_shows}
 use Rattle.tdl_meaning.proofs.PartsBeforeZero.{PartAt}
 use Rattle.tdl_meaning.proofs.NodeParts.{each_at}
 use Rattle.tdl_meaning.proofs.PartRows.{row_of, of_module, in_modules, beside}
 use Rattle.tdl_meaning.proofs.SameActRows.{acts_same}
 use Rattle.tdl_meaning.specs.Accepted.{Accepted}
+use Rattle.tdl_meaning.specs.Entries.{EntryFact, Got}
+use Rattle.tdl_meaning.specs.AllItems.{AllEntries}
+use Rattle.tdl_meaning.specs.PartFacts.{StubFacts, PartBefore, Parts}
+use Rattle.tdl_meaning.specs.NodeShape.{first_part, Ordered, NodeShape}
 
 -- two facts of each entry at once
 both_entries : (P Q : Receive → EntryNow → Type 0) (es : List Receive) (nows : List EntryNow) → AllEntries P es nows →
@@ -51,23 +52,25 @@ both_entries P Q (e ∷ es) [] ps qs = absurd ps
 both_entries P Q (e ∷ es) (now ∷ more) ps qs = ((ps.0, qs.0), both_entries P Q es more ps.1 qs.1)
 
 -- mode rows of a state and of what becomes of it, module by module
-modes_zip : (pl : Placement) (j x : ℕ) (f : ℕ → ModuleState → ModuleState) (n : ℕ) (rs : State) →
-    mode_rows_from pl j x n rs (numbered n f rs)
-    ≡ joined (numbered n (λ k r. if hosts pl j k then module_mode_rows x j k r (f k r) else []) rs)
-modes_zip pl j x f n [] = refl
-modes_zip pl j x f n (r ∷ rs) =
-    ap (λ l. (if hosts pl j n then module_mode_rows x j n r (f n r) else []) ++ l) (modes_zip pl j x f (suc n) rs)
+modes_zip : (placement : Placement) (j x : ℕ) (f : ℕ → ModuleState → ModuleState) (n : ℕ) (rs : State) →
+    mode_rows_from placement j x n rs (numbered n f rs)
+    ≡ joined (numbered n (λ k r. if hosts placement j k then module_mode_rows x j k r (f k r) else []) rs)
+modes_zip placement j x f n [] = refl
+modes_zip placement j x f n (r ∷ rs) =
+    ap (λ l. (if hosts placement j n then module_mode_rows x j n r (f n r) else [])
+    ++ l) (modes_zip placement j x f (suc n) rs)
 
 -- no rows at all
 abbrev none : ℕ → List Shown
 none k = []
 
 -- a part that shows rows only where its module is hosted shows those rows there
-hosted_rows : (p : Program) (pl : Placement) (j : ℕ) (f : ℕ → List Shown) (k : ℕ) (rows : List Shown) →
-    (hosts pl j k ≡ true → f k ≡ rows) → of_module p pl j f none k ≡ (if hosts pl j k then rows else [])
-hosted_rows p pl j f k rows h = by_test (hosts pl j k) refl (imports p pl j k)
+hosted_rows : (program : Program) (placement : Placement) (j : ℕ) (f : ℕ → List Shown) (k : ℕ) (rows : List Shown) →
+    (hosts placement j k ≡ true → f k ≡ rows) → of_module program placement j f none k
+    ≡ (if hosts placement j k then rows else [])
+hosted_rows program placement j f k rows h = by_test (hosts placement j k) refl (imports program placement j k)
   where
-    by_test : (b : Bool) → hosts pl j k ≡ b → (c : Bool) →
+    by_test : (b : Bool) → hosts placement j k ≡ b → (c : Bool) →
         (if b then f k else (if c then [] else [])) ≡ (if b then rows else [])
     by_test true e c = h e
     by_test false e true = refl
@@ -75,8 +78,8 @@ hosted_rows p pl j f k rows h = by_test (hosts pl j k) refl (imports p pl j k)
 
 module _ (given : Accepted) (gone : ℕ → ℕ → Type 0) (x : ℕ) (sensed : Sensed) (times : Times)
     (within : IsWithinWorst given.program times) (logic : ℕ → ModuleState) (parts : List Part)
-    (ps : Parts given gone (PartBefore given gone x logic) parts) (safe : (kk : ℕ) → gone kk x → ⊥) where
-  -- what is known of the stubs behind delivery
+    (ps : Parts given (PartBefore given gone x logic) parts) (safe : (kk : ℕ) → gone kk x → ⊥) where
+  -- what is known of the stubs after delivery
   abbrev pub Stubs : List Part → Type 0
   Stubs qs = (i : ℕ) (q : Stub) (t : StubNow) → slice_get qs i ≡ Some (Part.Outside q t) →
       StubFacts given gone (suc x) x logic q t
@@ -87,11 +90,11 @@ module _ (given : Accepted) (gone : ℕ → ℕ → Type 0) (x : ℕ) (sensed : 
       ≡ module_port_rows given.program given.placement j x q.number.0 (logic q.number.0)
   stub_shows j q t a f =
       let kk : ℕ = q.number.0 in
-      let m : Module = f.tables.text in
+      let m : Module = f.tables.definition in
       let there = f.tables.there in
       let e : q.entries ≡ receives given.program given.placement given.schedule kk m =
       ap (λ (s : Stub). s.entries) a.tables ∙ ap (receives given.program given.placement given.schedule kk)
-      (same_Some a.text m (sym a.there ∙ there)) in
+      (same_Some a.definition m (sym a.there ∙ there)) in
       let remote = remote-is given.program given.placement j kk a.away a.near in
       let g : Grouped m 0 m.tasks q.entries = subst (Grouped m 0 m.tasks) (sym e)
       (grouped given kk m (λ task public. remote task ∙ public) (λ task public. remote task ∙ public)) in
@@ -103,14 +106,14 @@ module _ (given : Accepted) (gone : ℕ → ℕ → Type 0) (x : ℕ) (sensed : 
       (both_entries (EntryFact m x (logic kk)) (Got (gone kk) m (suc x) x (logic kk)) q.entries t.entries f.facts
       f.gots)
 
-  -- `state` is the program's, and node j sees what its modules put out behind phase 1
+  -- `state` is the program's, and node j sees what its modules put out after phase 1
   module _ (state : State) (size : length given.program.modules ≡ length state)
       (agree : (kk : ℕ) (m : Module) → slice_get given.program.modules kk ≡ Some m →
       slice_get state kk ≡ Some (logic kk)) (j : ℕ) (seen : PortKey → ℤ) (ns : List ℕ) (apart : Apart ns)
       (looks : (kk : ℕ) (m : Module) → slice_get given.program.modules kk ≡ Some m → hosts given.placement j kk ≡ true →
       (key : PortKey) → ReadsPort given.program kk m key → (key.module.0 == kk) ≡ false →
       seen key ≡ outputs_in (map (phase_one x) state) key) where
-    -- what the logical modules put out behind phase 1
+    -- what the logical modules put out after phase 1
     abbrev out : PortKey → ℤ
     out = outputs_in (map (phase_one x) state)
 
@@ -126,25 +129,10 @@ module _ (given : Accepted) (gone : ℕ → ℕ → Type 0) (x : ℕ) (sensed : 
     abbrev enters : ℕ → List Shown
     enters k = module_mode_rows x j k (logic k) (alone k x sensed seen (logic k))
 
-    -- the rows of parts, one after the other, in a phase
-    abbrev rows_of : (Part → List Shown) → List Part → List Shown
-    rows_of = one.rows_of given x j sensed times (timely given x sensed times within logic) logic seen ns apart
-
-    -- the rows of a part in phase 1
-    abbrev rows_one : Part → List Shown
-    rows_one = one.rows_of_ends given x j sensed times (timely given x sensed times within logic) logic seen ns apart
-
-    -- those of phase 2
-    abbrev rows_two : Part → List Shown
-    rows_two = one.rows_of_updates given x j sensed times (timely given x sensed times within logic) logic seen ns apart
-
-    -- those of phase 3
-    abbrev rows_three : Part → List Shown
-    rows_three = one.rows_of_modes given x j sensed times (timely given x sensed times within logic) logic seen ns apart
-
     -- phase 1, part by part
-    ones : (qs : List Part) → ((i : ℕ) (q : Part) → slice_get qs i ≡ Some q → PartAt given j (first_of q)) → Stubs qs →
-        rows_of rows_one qs ≡ flat_map (row_of ports ports) qs
+    ones : (qs : List Part) → ((i : ℕ) (q : Part) → slice_get qs i ≡ Some q → PartAt given j (first_part q)) →
+        Stubs qs →
+        flat_map (port_rows_of given x j logic) qs ≡ flat_map (row_of ports ports) qs
     ones [] as' stubs = refl
     ones (Part.Host h s ∷ qs) as' stubs =
         ap (λ l. ports h.number.0 ++ l) (ones qs (λ i. as' (suc i)) (λ i. stubs (suc i)))
@@ -153,13 +141,14 @@ module _ (given : Accepted) (gone : ℕ → ℕ → Type 0) (x : ℕ) (sensed : 
         (ones qs (λ i. as' (suc i)) (λ i. stubs (suc i)))
 
     -- phase 2, part by part
-    twos : (qs : List Part) → rows_of rows_two qs ≡ flat_map (row_of acts none) qs
+    twos : (qs : List Part) → flat_map (act_rows_of given x j sensed seen logic) qs ≡ flat_map (row_of acts none) qs
     twos [] = refl
     twos (Part.Host h s ∷ qs) = ap (λ l. acts h.number.0 ++ l) (twos qs)
     twos (Part.Outside q t ∷ qs) = twos qs
 
     -- phase 3, part by part
-    threes : (qs : List Part) → rows_of rows_three qs ≡ flat_map (row_of enters none) qs
+    threes : (qs : List Part) →
+        flat_map (mode_rows_of given x j sensed seen logic) qs ≡ flat_map (row_of enters none) qs
     threes [] = refl
     threes (Part.Host h s ∷ qs) = ap (λ l. enters h.number.0 ++ l) (threes qs)
     threes (Part.Outside q t ∷ qs) = threes qs
@@ -219,7 +208,7 @@ module _ (given : Accepted) (gone : ℕ → ℕ → Type 0) (x : ℕ) (sensed : 
 
     -- all rows of the parts of the node
     parts_show : (qs : List Part) → Ordered given j qs → Stubs qs →
-        phase_rows given x sensed times within logic j seen ns apart qs
+        node_shows given x j sensed seen logic qs
         ≡ node_rows given.program given.placement x sensed state j
     parts_show qs order stubs =
         let all = in_modules given.program given.placement given.schedule j in
@@ -231,12 +220,12 @@ module _ (given : Accepted) (gone : ℕ → ℕ → Type 0) (x : ℕ) (sensed : 
   -- the rows of a node are what it sees of the logical instant
   pub node_shows-are : (state : State) → length given.program.modules ≡ length state →
       ((kk : ℕ) (m : Module) → slice_get given.program.modules kk ≡ Some m → slice_get state kk ≡ Some (logic kk)) →
-      (j : ℕ) (n : NodeNow) (g : NodeShape given j n) →
+      (j : ℕ) (n : NodeNow) → NodeShape given j n →
       ((kk : ℕ) (m : Module) → slice_get given.program.modules kk ≡ Some m → hosts given.placement j kk ≡ true →
       (key : PortKey) → ReadsPort given.program kk m key → (key.module.0 == kk) ≡ false →
-      sees given x sensed times within logic j n.parts key ≡ outputs_in (map (phase_one x) state) key) →
-      Stubs n.parts → node_shows given x sensed times within logic j n g
+      node_sees x logic n.parts key ≡ outputs_in (map (phase_one x) state) key) →
+      Stubs n.parts → node_shows given x j sensed (node_sees x logic n.parts) logic n.parts
       ≡ node_rows given.program given.placement x sensed state j
   node_shows-are state size agree j n g looks stubs =
-      parts_show state size agree j (sees given x sensed times within logic j n.parts) (map part_number n.parts)
+      parts_show state size agree j (node_sees x logic n.parts) (map part_number n.parts)
       (ascends-apart 0 n.parts g.up) looks n.parts g.order stubs

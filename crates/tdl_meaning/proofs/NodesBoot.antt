@@ -1,21 +1,18 @@
--- Instant 0 of all nodes: none traps, and what stands behind it.
+-- Instant 0 of all nodes: none traps, and what stands after it.
 use Rattle.std.proofs.Common.{◌≡◌, ℕ, suc, ◌+◌, ◌≤◌, ℤ, List, [], ◌∷◌, ◌++◌, map, filter, length, true, Option, Some, None, refl, ap, ap₂, sym, ◌∙◌, subst, arith}
-use Rattle.std.specs.Prelude.{slice_get}
+use Rattle.std.specs.Prelude.{flat_map, option_map, unwrap_or, slice_get}
 use Rattle.std.proofs.lemmas.List.Elements.{filter-append}
 use Rattle.tdl_base.specs.declared.numbers.PortKey.{PortKey}
 use Rattle.tdl_mode.specs.declared.program.Module.{Module}
-use Rattle.tdl_mode.specs.States.{ModuleState, Sensed, look_of}
-use Rattle.tdl_mode.specs.Phases.{phase_four}
-use Rattle.tdl_mode.specs.Instants.{entered}
+use Rattle.tdl_base.specs.Sensed.{Sensed}
+use Rattle.tdl_mode.specs.States.{ModuleState}
 use Rattle.tdl_deploy.specs.Placed.{hosts}
 use Rattle.tdl_trace.specs.Shown.{Shown}
 use Rattle.tdl_verify.specs.States.{HostNow, Part, NodeNow, Times, part_number}
 use Rattle.tdl_verify.specs.Runs.{Turns, and_turn, all_turns, is_plain}
 use Rattle.tdl_gen.specs.Counts.{module_count}
 use Rattle.tdl_gen.specs.Realises.{IsWithinWorst}
-use Rattle.tdl_meaning.proofs.HostFacts.{HostAfter}
 use Rattle.tdl_meaning.proofs.PhaseFour.{Timely}
-use Rattle.tdl_meaning.proofs.PartMoves.{View, seen_in}
 use Rattle.tdl_meaning.proofs.OneLive.{ascends-apart}
 use Rattle.tdl_gen.proofs.HostMoves.{Apart}
 use Rattle.tdl_meaning.proofs.PartsBoot as boot
@@ -23,10 +20,13 @@ use Rattle.tdl_verify.proofs.NodeSends.{all_parts}
 use Rattle.tdl_base.proofs.SideBySide.{Zip, zip-append}
 use Rattle.std.proofs.lemmas.Option.{same_Some}
 use Rattle.tdl_meaning.proofs.JobTimes.{timely_all}
-use Rattle.tdl_meaning.proofs.NodeShapes.{Shape, shares, NodeShape, Shapes, Same, AllSame, node_kept}
+use Rattle.tdl_meaning.proofs.NodeShapes.{Same, AllSame, node_kept}
 use Rattle.tdl_meaning.proofs.PartsBeforeZero.{PartAt, NodeAt, NodesAt}
 use Rattle.tdl_meaning.specs.Accepted.{Accepted}
-use Rattle.tdl_meaning.proofs.Every.{Every}
+use Rattle.tdl_meaning.specs.HostInStep.{HostAfter}
+use Rattle.tdl_meaning.specs.NodeShape.{Shape, shares, NodeShape, Shapes}
+use Rattle.tdl_meaning.specs.AllItems.{Every}
+use Rattle.tdl_meaning.specs.OneNode.{first_sees, state_first, first_row_of, Started, FirstDone}
 
 module _ (given : Accepted) (sensed : Sensed) (times : Times) (within : IsWithinWorst given.program times) where
   -- the times of each module's jobs are within its worst cases
@@ -38,7 +38,7 @@ module _ (given : Accepted) (sensed : Sensed) (times : Times) (within : IsWithin
       boot.AllFirst given j sensed times boot_timely qs
   firsts j [] as' = tt
   firsts j (Part.Host h s ∷ qs) as' =
-      (record { text = as'.0.text; there = as'.0.there; is = as'.0.is }, firsts j qs as'.1)
+      (record { definition = as'.0.definition; there = as'.0.there; is = as'.0.is }, firsts j qs as'.1)
   firsts j (Part.Outside q t ∷ qs) as' = (as'.0.is, firsts j qs as'.1)
 
   -- their shares are within the declared ones
@@ -50,45 +50,72 @@ module _ (given : Accepted) (sensed : Sensed) (times : Times) (within : IsWithin
       let g = gs.0 in
       let a = as'.0 in
       let r = shares-first j qs gs.1 as'.1 in
-      let e : module_count a.text ≡ module_count g.text =
-      ap module_count (same_Some a.text g.text (sym a.there ∙ g.there)) in
+      let e : module_count a.definition ≡ module_count g.definition =
+      ap module_count (same_Some a.definition g.definition (sym a.there ∙ g.there)) in
       omega (arith, r, e)
 
-  -- what the boot of node j looks at of a part
-  abbrev pub look_first : ℕ → Part → View
-  look_first j = boot.view given j sensed times boot_timely
+  -- the rows of a node's boot are those of its parts
+  rows-first : (j : ℕ) (seen : PortKey → ℤ) (ns : List ℕ) (apart : Apart ns) (qs : List Part)
+      (as' : Every (PartAt given j) qs) →
+      boot.entered_rows given j sensed times boot_timely seen ns apart qs (firsts j qs as')
+      ≡ flat_map (first_row_of given j) qs
+  rows-first j seen ns apart [] as' = refl
+  rows-first j seen ns apart (Part.Host h s ∷ qs) as' =
+      let a = as'.0 in
+      ap₂ (λ o l. (Shown.Mode 0 j h.number.0 (unwrap_or (option_map (λ (m : Module). m.start.0) o) 0) ∷ []) ++ l)
+      (sym a.there) (rows-first j seen ns apart qs as'.1)
+  rows-first j seen ns apart (Part.Outside q t ∷ qs) as' = rows-first j seen ns apart qs as'.1
 
-  -- what node j sees at instant 0, whose parts are these
-  abbrev pub sees_first : ℕ → List Part → PortKey → ℤ
-  sees_first j qs = seen_in (map (look_first j) qs)
+  -- what a part comes to
+  abbrev Comes : (PortKey → ℤ) → Part → Part → Type 0
+  Comes seen = Started given sensed (λ kk. seen)
 
-  -- the boot of node j ends
-  abbrev Done : (j : ℕ) (n : NodeNow) → NodeShape given j n → NodeAt given j n → Type 0
-  Done j n g as' = boot.BootDone given j sensed times boot_timely (sees_first j n.parts) (map part_number n.parts)
-      (ascends-apart 0 n.parts g.up) n.declared n.parts (firsts j n.parts as')
+  -- parts that have started are the same, but for their states
+  same_started : (j : ℕ) (seen : PortKey → ℤ) (qs rs : List Part) (gs : Every (Shape given j) qs) →
+      Zip (Comes seen) qs rs → AllSame given j qs gs rs
+  same_started j seen [] [] gs z = tt
+  same_started j seen [] (r ∷ rs) gs z = absurd z
+  same_started j seen (q ∷ qs) [] gs z = absurd z
+  same_started j seen (Part.Outside q t ∷ qs) (r ∷ rs) gs z = (
+    subst (Same given j (Part.Outside q t) gs.0) (sym z.0)
+        (record { shape = gs.0; number = refl; count = refl; first = refl }),
+    same_started j seen qs rs gs.1 z.1,
+  )
+  same_started j seen (Part.Host h s ∷ qs) (r ∷ rs) gs z = (
+    subst (Same given j (Part.Host h s) gs.0) (sym z.0.1)
+        (record { shape = gs.0; number = refl; count = refl; first = refl }),
+    same_started j seen qs rs gs.1 z.1,
+  )
 
-  -- that of each node of the compiler's does
-  node_done : (j : ℕ) (n : NodeNow) (g : NodeShape given j n) (as' : NodeAt given j n) → Done j n g as'
-  node_done j n g as' =
+  -- instant 0 of a node of the compiler's ends
+  pub first_done : (j : ℕ) (n : NodeNow) → NodeShape given j n → NodeAt given j n → FirstDone given j sensed times n
+  first_done j n g as' =
       let count = shares-first j n.parts g.each as' in
       let enough = g.enough in
-      boot.boot_done given j sensed times boot_timely (sees_first j n.parts) (map part_number n.parts)
-      (ascends-apart 0 n.parts g.up) n.declared n.parts (firsts j n.parts as') refl refl (omega (arith, count, enough))
+      let seen : PortKey → ℤ = first_sees n.parts in
+      let apart : Apart (map part_number n.parts) = ascends-apart 0 n.parts g.up in
+      let d = boot.boot_done given j sensed times boot_timely seen (map part_number n.parts) apart n.declared n.parts
+      (firsts j n.parts as') refl refl (omega (arith, count, enough)) in
+      record {
+        after = d.after;
+        rows = d.rows;
+        is = d.is;
+        started = d.stepped;
+        shown = d.shown ∙ rows-first j seen (map part_number n.parts) apart n.parts as';
+        shape = node_kept given j n g d.after (same_started j seen n.parts d.after g.each d.stepped);
+      }
 
   -- the rows of all nodes, the first having number k
-  abbrev pub entered_all : (k : ℕ) (nodes : List NodeNow) → Shapes given k nodes → NodesAt given k nodes → List Shown
-  entered_all k [] gs as' = []
-  entered_all k (n ∷ more) gs as' =
-      boot.entered_rows given k sensed times boot_timely (sees_first k n.parts) (map part_number n.parts)
-      (ascends-apart 0 n.parts gs.0.up) n.parts (firsts k n.parts as'.0)
-      ++ entered_all (suc k) more gs.1 as'.1
+  abbrev pub entered_all : ℕ → List NodeNow → List Shown
+  entered_all k [] = []
+  entered_all k (n ∷ more) = flat_map (first_row_of given k) n.parts ++ entered_all (suc k) more
 
   -- `module_sees` is what each module sees
   module _ (module_sees : ℕ → PortKey → ℤ) where
-    -- the state of module kk behind instant 0, or one without tasks where there is no module
+    -- the state of module kk after instant 0, or one without tasks where there is no module
     abbrev pub start_of : ℕ → Option Module → ModuleState
     start_of kk None = record {
-      text = record {
+      definition = record {
         name = [];
         imports = [];
         constants = [];
@@ -103,76 +130,56 @@ module _ (given : Accepted) (sensed : Sensed) (times : Times) (within : IsWithin
       tasks = [];
       actuators = [];
     }
-    start_of kk (Some m) = phase_four 0 (look_of kk (entered m).tasks sensed (module_sees kk)) (entered m)
+    start_of kk (Some m) = state_first kk sensed (module_sees kk) m
 
-    -- the states of the program's modules behind instant 0
+    -- the states of the program's modules after instant 0
     abbrev pub logic_first : ℕ → ModuleState
     logic_first kk = start_of kk (slice_get given.program.modules kk)
 
     -- a host comes to its module's state, a stub stays as it is
-    abbrev pub Started : Part → Part → Type 0
-    Started (Part.Host h s) q' = (s' : HostNow) × (q' ≡ Part.Host h s')
+    abbrev pub HasStarted : Part → Part → Type 0
+    HasStarted (Part.Host h s) q' = (s' : HostNow) × (q' ≡ Part.Host h s')
         × ((m : Module) → slice_get given.program.modules h.number.0 ≡ Some m →
         HostAfter m h 0 (logic_first h.number.0) s')
-    Started (Part.Outside q t) q' = q' ≡ Part.Outside q t
+    HasStarted (Part.Outside q t) q' = q' ≡ Part.Outside q t
 
-    -- the parts behind the boot of node j have started
-    zip_started : (j : ℕ) (seen : PortKey → ℤ) (ns : List ℕ) (apart : Apart ns) (qs rs : List Part) →
-        Every (Shape given j) qs → ((kk : ℕ) → hosts given.placement j kk ≡ true → module_sees kk ≡ seen) →
-        boot.AllBegun given j sensed times boot_timely seen ns apart qs rs → Zip Started qs rs
-    zip_started j seen ns apart [] [] gs same z = tt
-    zip_started j seen ns apart [] (r ∷ rs) gs same z = absurd z
-    zip_started j seen ns apart (q ∷ qs) [] gs same z = absurd z
-    zip_started j seen ns apart (Part.Outside q t ∷ qs) (r ∷ rs) gs same z =
-        (z.0, zip_started j seen ns apart qs rs gs.1 same z.1)
-    zip_started j seen ns apart (Part.Host h s ∷ qs) (r ∷ rs) gs same z = (
+    -- the parts of node j have started, where each of its modules sees what the node does
+    zip_started : (j : ℕ) (seen : PortKey → ℤ) (qs rs : List Part) → Every (Shape given j) qs →
+        ((kk : ℕ) → hosts given.placement j kk ≡ true → module_sees kk ≡ seen) → Zip (Comes seen) qs rs →
+        Zip HasStarted qs rs
+    zip_started j seen [] [] gs same z = tt
+    zip_started j seen [] (r ∷ rs) gs same z = absurd z
+    zip_started j seen (q ∷ qs) [] gs same z = absurd z
+    zip_started j seen (Part.Outside q t ∷ qs) (r ∷ rs) gs same z = (z.0, zip_started j seen qs rs gs.1 same z.1)
+    zip_started j seen (Part.Host h s ∷ qs) (r ∷ rs) gs same z = (
       (
         z.0.0,
         z.0.1,
         λ m at. subst (λ o. HostAfter m h 0 (start_of h.number.0 o) z.0.0) (sym at)
-            (subst (λ (f : PortKey → ℤ).
-            HostAfter m h 0 (phase_four 0 (look_of h.number.0 (entered m).tasks sensed f) (entered m)) z.0.0)
+            (subst (λ (f : PortKey → ℤ). HostAfter m h 0 (state_first h.number.0 sensed f m) z.0.0)
             (sym (same h.number.0 gs.0.hosted)) (z.0.2 m at)),
       ),
-      zip_started j seen ns apart qs rs gs.1 same z.1,
+      zip_started j seen qs rs gs.1 same z.1,
     )
 
-    -- they are the same, but for their states
-    same_started : (j : ℕ) (qs rs : List Part) (gs : Every (Shape given j) qs) → Zip Started qs rs →
-        AllSame given j qs gs rs
-    same_started j [] [] gs z = tt
-    same_started j [] (r ∷ rs) gs z = absurd z
-    same_started j (q ∷ qs) [] gs z = absurd z
-    same_started j (Part.Outside q t ∷ qs) (r ∷ rs) gs z = (
-      subst (Same given j (Part.Outside q t) gs.0) (sym z.0)
-          (record { shape = gs.0; number = refl; count = refl; first = refl }),
-      same_started j qs rs gs.1 z.1,
-    )
-    same_started j (Part.Host h s ∷ qs) (r ∷ rs) gs z = (
-      subst (Same given j (Part.Host h s) gs.0) (sym z.0.1)
-          (record { shape = gs.0; number = refl; count = refl; first = refl }),
-      same_started j qs rs gs.1 z.1,
-    )
-
-    -- instant 0 of all nodes, the first having number k, and what stands behind it
-    pub record AllBooted (k : ℕ) (nodes : List NodeNow) (gs : Shapes given k nodes) (as' : NodesAt given k nodes) :
-        Type 0 where
+    -- instant 0 of all nodes, the first having number k, and what stands after it
+    pub record AllBooted (k : ℕ) (nodes : List NodeNow) : Type 0 where
       pub after : List NodeNow
       pub rows : List Shown
       pub is : all_turns 0 sensed times k nodes ≡ Turns.All after rows
       pub shapes : Shapes given k after
       pub size : length after ≡ length nodes
-      pub started : Zip Started (all_parts nodes) (all_parts after)
-      pub shown : filter is_plain rows ≡ entered_all k nodes gs as'
+      pub started : Zip HasStarted (all_parts nodes) (all_parts after)
+      pub shown : filter is_plain rows ≡ entered_all k nodes
 
     -- each module that node j hosts sees what the node does, whose parts are these
     abbrev SeesAs : ℕ → NodeNow → Type 0
-    SeesAs j n = (kk : ℕ) → hosts given.placement j kk ≡ true → module_sees kk ≡ sees_first j n.parts
+    SeesAs j n = (kk : ℕ) → hosts given.placement j kk ≡ true → module_sees kk ≡ first_sees n.parts
 
     -- none traps, where each module sees what its node does
     pub all_booted : (k : ℕ) (nodes : List NodeNow) (gs : Shapes given k nodes) (as' : NodesAt given k nodes) →
         ((i : ℕ) (n : NodeNow) → slice_get nodes i ≡ Some n → (kk : ℕ) → hosts given.placement (k + i) kk ≡ true →
-        module_sees kk ≡ sees_first (k + i) n.parts) → AllBooted k nodes gs as'
+        module_sees kk ≡ first_sees n.parts) → AllBooted k nodes
     unfolding all_parts
     all_booted k [] gs as' same = record {
       after = [];
@@ -185,19 +192,19 @@ module _ (given : Accepted) (sensed : Sensed) (times : Times) (within : IsWithin
     }
     all_booted k (n ∷ more) gs as' same =
         let g = gs.0 in
-        let d : Done k n g as'.0 = node_done k n g as'.0 in
+        let d : FirstDone given k sensed times n = first_done k n g as'.0 in
         let here : k + 0 ≡ k = omega arith in
         let rest = all_booted (suc k) more gs.1 as'.1 (λ i m at. let s : k + suc i ≡ suc k + i = omega arith in
         subst (λ j. SeesAs j m) s (same (suc i) m at)) in
-        let z : Zip Started n.parts d.after =
-        zip_started k (sees_first k n.parts) (map part_number n.parts) (ascends-apart 0 n.parts g.up) n.parts
-        d.after g.each (subst (λ j. SeesAs j n) here (same 0 n refl)) d.stepped in
+        let z : Zip HasStarted n.parts d.after =
+        zip_started k (first_sees n.parts) n.parts d.after g.each (subst (λ j. SeesAs j n) here (same 0 n refl))
+        d.started in
         record {
           after = record n { parts = d.after } ∷ rest.after;
           rows = d.rows ++ rest.rows;
           is = ap₂ (λ a b. and_turn k n a b) d.is rest.is;
-          shapes = (node_kept given k n g d.after (same_started k n.parts d.after g.each z), rest.shapes);
+          shapes = (d.shape, rest.shapes);
           size = ap suc rest.size;
-          started = zip-append Started n.parts (all_parts more) d.after (all_parts rest.after) z rest.started;
+          started = zip-append HasStarted n.parts (all_parts more) d.after (all_parts rest.after) z rest.started;
           shown = filter-append is_plain d.rows rest.rows ∙ ap₂ (λ a b. a ++ b) d.shown rest.shown;
         }

@@ -10,21 +10,20 @@ use Rattle.tdl_deploy.specs.Placed.{hosts}
 use Rattle.tdl_image.specs.declared.hosted.Hosted.{Hosted}
 use Rattle.tdl_image.specs.declared.hosted.ImageWindow.{ImageWindow}
 use Rattle.tdl_verify.specs.States.{HostNow, Part, NodeNow, part_number}
-use Rattle.tdl_verify.specs.Micros.{is_live, live, run_part, stretches, head_of, opened, micro, tasks_run}
+use Rattle.tdl_base.specs.Lists.{first_of}
+use Rattle.tdl_verify.specs.Micros.{is_live, live, run_part, stretches, opened, micro, tasks_run}
 use Rattle.tdl_gen.specs.Tables.{windows_of, hosted_of}
-use Rattle.tdl_meaning.proofs.HostFacts.{HostFacts, HostAfter}
 use Rattle.tdl_gen.proofs.HostMoves.{NotIn, Apart}
 use Rattle.tdl_meaning.proofs.CoveredWindows.{FromSchedule, all_from}
-use Rattle.tdl_meaning.proofs.Pairwise.{every-mapped, every-kept, filter-none}
+use Rattle.tdl_meaning.proofs.Pairwise.{every-mapped, every-kept}
 use Rattle.tdl_meaning.proofs.WindowsApart.{Grained, one_host_live, never_both_live}
 use Rattle.tdl_meaning.proofs.HostMicro.{after_micro, micro_host}
 use Rattle.tdl_meaning.specs.Accepted.{Accepted}
-use Rattle.tdl_meaning.proofs.Every.{Every}
-
--- part numbers ascend, from n on
-abbrev pub Ascends : ℕ → List Part → Type 0
-Ascends n [] = Unit {0}
-Ascends n (q ∷ qs) = (n ≤ part_number q) × Ascends (suc (part_number q)) qs
+use Rattle.tdl_meaning.specs.HostInStep.{HostFacts, HostAfter}
+use Rattle.tdl_meaning.specs.AllItems.{Every}
+use Rattle.tdl_meaning.specs.NodeShape.{Ascends}
+use Rattle.tdl_meaning.proofs.Every.{all-at}
+use Rattle.tdl_meaning.proofs.FilterCounts.{filter-none}
 
 -- numbers ascend, from n on
 abbrev Rises : ℕ → List ℕ → Type 0
@@ -55,11 +54,11 @@ ascends-apart n qs a front c back e = not_in n c front back (subst (Rises n) e (
 module _ (given : Accepted) (x node : ℕ) (logic : ℕ → ModuleState) where
   -- a hosted module after the turn of instant x, in step with its logical state
   pub record HostTurned (h : Hosted) (s : HostNow) : Type 0 where
-    pub text : Module
-    pub there : slice_get given.program.modules h.number.0 ≡ Some text
-    pub tables : h ≡ hosted_of given.schedule h.number.0 text
+    pub definition : Module
+    pub there : slice_get given.program.modules h.number.0 ≡ Some definition
+    pub tables : h ≡ hosted_of given.schedule h.number.0 definition
     pub hosted : hosts given.placement node h.number.0 ≡ true
-    pub facts : HostAfter text (hosted_of given.schedule h.number.0 text) x (logic h.number.0) s
+    pub facts : HostAfter definition (hosted_of given.schedule h.number.0 definition) x (logic h.number.0) s
 
   -- a part after the turn
   abbrev pub PartTurned : Part → Type 0
@@ -71,7 +70,7 @@ module _ (given : Accepted) (x node : ℕ) (logic : ℕ → ModuleState) where
   AllTurned qs = Every PartTurned qs
 
   -- its cycle began at an instant that its grain divides
-  grained : (h : Hosted) (s : HostNow) (b : HostTurned h s) → Grained given x node h.number.0 b.text s
+  grained : (h : Hosted) (s : HostNow) (b : HostTurned h s) → Grained given x node h.number.0 b.definition s
   grained h s b = record {
     at = b.there;
     hosted = b.hosted;
@@ -101,10 +100,12 @@ module _ (given : Accepted) (x node : ℕ) (logic : ℕ → ModuleState) where
       let ne : (n == h.number.0) ≡ false = ne_eqb n h.number.0 (λ e. omega (arith, e, lt, u)) in
       ap₂ (λ b c. b ++ c) (ap (filter (is_live x s)) (windows-are h s bs.0)
       ∙ filter-none (is_live x s) (windows_of given.schedule h.number.0)
+      (all-at (λ w. is_live x s w ≡ true → ⊥) (windows_of given.schedule h.number.0)
       (every-mapped (FromSchedule given.schedule h.number.0) (λ w. is_live x s w ≡ true → ⊥)
       (windows_of given.schedule h.number.0)
-      (λ w fw lw. never_both_live given x node n h.number.0 m bs.0.text a s ne ga (grained h s bs.0) v w fv fw lv lw)
-      (all_from given.schedule h.number.0)))
+      (λ w fw lw. never_both_live given x node n h.number.0 m bs.0.definition a s ne ga (grained h s bs.0) v w fv fw lv
+      lw)
+      (all_from given.schedule h.number.0))))
       (no_other_live n m a v ga fv lv (suc h.number.0) (omega (arith, lt, u)) qs up.1 bs.1)
 
   -- at most one window of the node is live
@@ -124,7 +125,7 @@ module _ (given : Accepted) (x node : ℕ) (logic : ℕ → ModuleState) where
       by_list rest [] le e = rest
       by_list rest (v ∷ []) le e =
           let none : length (flat_map (live x) qs) ≡ 0 = ap length
-          (no_other_live h.number.0 bs.0.text s v (grained h s bs.0) e.0.0 e.0.1 (suc h.number.0)
+          (no_other_live h.number.0 bs.0.definition s v (grained h s bs.0) e.0.0 e.0.1 (suc h.number.0)
           (omega arith) qs up.1 bs.1) in
           omega (arith, none)
       by_list rest (v ∷ w ∷ l) le e = absurd (omega (arith, le))
@@ -133,7 +134,7 @@ module _ (given : Accepted) (x node : ℕ) (logic : ℕ → ModuleState) where
   pub micro-is : (n : NodeNow) → Ascends 0 n.parts → AllTurned n.parts →
       micro x n ≡ Some (record n {
         parts = map (run_part x) n.parts;
-        running = opened n.running (head_of (flat_map (stretches x) n.parts));
+        running = opened n.running (first_of (flat_map (stretches x) n.parts));
       })
   micro-is n up bs = let e = below (length (flat_map (live x) n.parts)) (live_at_most 0 n.parts up bs) in rw e refl
     where
@@ -142,14 +143,14 @@ module _ (given : Accepted) (x node : ℕ) (logic : ℕ → ModuleState) where
 
   -- after its microsecond a hosted module is in step before the next instant
   pub host_in_step : (h : Hosted) (s : HostNow) (b : HostTurned h s) →
-      HostFacts b.text (hosted_of given.schedule h.number.0 b.text) (suc x) (logic h.number.0)
-      (after_micro given.schedule x h.number.0 b.text s)
-  host_in_step h s b = micro_host given.schedule h.number.0 b.text x (logic h.number.0) s b.facts
+      HostFacts b.definition (hosted_of given.schedule h.number.0 b.definition) (suc x) (logic h.number.0)
+      (after_micro given.schedule x h.number.0 b.definition s)
+  host_in_step h s b = micro_host given.schedule h.number.0 b.definition x (logic h.number.0) s b.facts
       (one_host_live given x node h.number.0 s (logic h.number.0).mode b.facts.facts.mode')
 
   -- the microsecond of a part that hosts a module
   pub run_part-host : (h : Hosted) (s : HostNow) (b : HostTurned h s) →
-      run_part x (Part.Host h s) ≡ Part.Host h (after_micro given.schedule x h.number.0 b.text s)
+      run_part x (Part.Host h s) ≡ Part.Host h (after_micro given.schedule x h.number.0 b.definition s)
   run_part-host h s b = ap (λ (c : Hosted). Part.Host h (record s {
     tasks = tasks_run (filter (is_live x s) c.windows) c.tasks s.tasks;
   })) b.tables

@@ -18,16 +18,16 @@ use Rattle.tdl_meaning.proofs.BusWindowsApart.{OnGrain, two_modules, one_module}
 use Rattle.tdl_meaning.specs.Accepted.{Accepted}
 
 module _ (given : Accepted) where
-  -- what the bus needs of a hosted module behind its turn
+  -- what the bus needs of a hosted module after its turn
   pub record OnBus (h : Hosted) (s : HostNow) : Type 0 where
-    pub text : Module
-    pub there : slice_get given.program.modules h.number.0 ≡ Some text
+    pub definition : Module
+    pub there : slice_get given.program.modules h.number.0 ≡ Some definition
     pub windows : h.windows ≡ windows_of given.schedule h.number.0
     pub mode : ℕ
     pub mode' : s.mode ≡ Some mode
-    pub grain : OnGrain text s.base
+    pub grain : OnGrain definition s.base
 
-  -- what the bus needs of a part behind its turn: nothing of a stub
+  -- what the bus needs of a part after its turn: nothing of a stub
   abbrev BusPart : Part → Type 0
   BusPart (Part.Host h s) = OnBus h s
   BusPart (Part.Outside q t) = Unit {0}
@@ -130,7 +130,7 @@ module _ (given : Accepted) where
           let l = given.passes.lengths a.place a.window a.at in
           let l' = given.passes.lengths b.place b.window b.at in
           two_modules given a.place b.place a.window b.window a.at b.at a.bus b.bus
-          (λ e. once i j h h' s s' lt ai bj (sym a.module' ∙ e ∙ b.module')) c.text c'.text
+          (λ e. once i j h h' s s' lt ai bj (sym a.module' ∙ e ∙ b.module')) c.definition c'.definition
           (ap (slice_get given.program.modules) a.module' ∙ c.there)
           (ap (slice_get given.program.modules) b.module' ∙ c'.there)
           s.base s'.base a.window.offset b.window.offset c.grain c'.grain (omega arith) (omega (arith, l))
@@ -142,10 +142,10 @@ module _ (given : Accepted) where
     pub window : Window
     pub at : slice_get given.schedule.windows place ≡ Some window
     pub bus : is_bus window.resource ≡ true
-    pub text : Module
-    pub there : slice_get given.program.modules window.module.0 ≡ Some text
+    pub definition : Module
+    pub there : slice_get given.program.modules window.module.0 ≡ Some definition
     pub base : ℕ
-    pub grain : OnGrain text base
+    pub grain : OnGrain definition base
     pub from : base + window.offset < x
     pub until : x < base + window.offset + window.length
 
@@ -197,7 +197,8 @@ module _ (given : Accepted) where
               let there : b.base + y ≡ x = omega (arith, from) in
               let other : b.window.module.0 ≡ a.window.module.0 → ⊥ =
               λ g. cc (eq-eqb h.number.0 b.window.module.0 (sym a.module' ∙ sym g), e) in
-              two_modules given b.place a.place b.window a.window b.at a.at b.bus a.bus other b.text c.text b.there
+              two_modules given b.place a.place b.window a.window b.at a.at b.bus a.bus other b.definition c.definition
+              b.there
               (ap (slice_get given.program.modules) a.module' ∙ c.there) b.base s.base y a.window.offset b.grain c.grain
               (omega (arith, from, there)) (omega (arith, until, there)) (omega arith) (omega (arith, l))
               (there ∙ sym now)

@@ -10,15 +10,16 @@ use Rattle.tdl_mode.specs.declared.program.Module.{Module}
 use Rattle.tdl_mode.specs.declared.program.Mode.{Mode}
 use Rattle.tdl_mode.specs.declared.program.Invocation.{Invocation}
 use Rattle.tdl_mode.specs.declared.program.Switch.{Switch}
-use Rattle.tdl_mode.specs.States.{Job, TaskState, ModuleState, Sensed, invocation_of, invocations_now, look_of}
+use Rattle.tdl_base.specs.Sensed.{Sensed}
+use Rattle.tdl_mode.specs.States.{Job, TaskState, ModuleState, invocation_of, invocations_now, look_of}
 use Rattle.tdl_mode.specs.Phases.{job_ends, has_ended, task_after, ended, phase_one, phase_two, phase_three, phase_four, switch_target, released, releases}
 use Rattle.tdl_mode.specs.Instants.{alone}
 use Rattle.tdl_mode.specs.WellFormed.{WellMode}
-use Rattle.tdl_meaning.proofs.HostFacts.{IsJob}
 use Rattle.tdl_mode.specs.declared.program.Program.{Program}
-use Rattle.tdl_meaning.proofs.PhasesAtOffset.{Stands, at_now, present-is, switch_target-is}
+use Rattle.tdl_meaning.proofs.PhasesAtOffset.{AtOffset, at_now, present-is, switch_target-is}
 use Rattle.tdl_meaning.proofs.NothingOpen.{goes_on}
 use Rattle.tdl_meaning.proofs.FilterCounts.{filter-none}
+use Rattle.tdl_meaning.specs.HostInStep.{IsJob}
 
 -- what is asked of the times of a mode: each invocation lasts and ends within the period, those of one task are apart,
 -- and no switch cuts one
@@ -31,8 +32,9 @@ pub record WellTimes (mode : Mode) : Type 0 where
       slice_get mode.switches k ≡ Some s → i.s.0 < s.at.0 → s.at.0 < i.e.0 → ⊥
 
 -- a well-formed mode has such times
-pub times_of : (p : Program) (kk : ℕ) (m : Module) (n : ℕ) (mode : Mode) → WellMode p kk m n mode → WellTimes mode
-times_of p kk m n mode well = record {
+pub times_of : (program : Program) (kk : ℕ) (m : Module) (n : ℕ) (mode : Mode) → WellMode program kk m n mode →
+    WellTimes mode
+times_of program kk m n mode well = record {
   lasts = λ n i at. (well.invocations n i at).lasts;
   within = λ n i at. (well.invocations n i at).ends;
   apart = well.apart;
@@ -79,12 +81,12 @@ module _ (m : Module) (k o x : ℕ) (mode : Mode) (is : slice_get m.modes k ≡ 
   no_worst a = 0
 
   -- a job has ended where its invocation ends at o
-  pub ends-at : (r : ModuleState) → Stands m k o x mode is r → (t d : ℕ) (u : TaskState) (job : Job) →
+  pub ends-at : (r : ModuleState) → AtOffset m k o x mode is r → (t d : ℕ) (u : TaskState) (job : Job) →
       u.active ≡ Some job → (j : IsJob k mode t d job) → has_ended r x u ≡ (j.invocation.e.0 == o)
   ends-at r stands t d u job active j =
       ap (λ a. unwrap_or (option_map (job_ends r x) a) false) active
       ∙ (let a : (job.mode == r.mode) ≡ true = eq-eqb job.mode r.mode (j.mode' ∙ sym stands.mode') in
-      let b : slice_get r.text.modes r.mode ≡ Some mode = present-is m k o x mode is r stands in
+      let b : slice_get r.definition.modes r.mode ≡ Some mode = present-is m k o x mode is r stands in
       rw (a, b, j.at) (at_now m k o x mode is r stands j.invocation.e.0))
 
   -- at an offset inside an invocation no switch stands
@@ -96,7 +98,7 @@ module _ (m : Module) (k o x : ℕ) (mode : Mode) (is : slice_get m.modes k ≡ 
       well.uncut n i k s at here (omega (arith, begun, q)) (omega (arith, open', q)))
 
   -- at an offset inside an invocation phase 3 leaves the state
-  phase_three-inside : (r : ModuleState) → Stands m k o x mode is r → (look : Look) (n : ℕ) (i : Invocation) →
+  phase_three-inside : (r : ModuleState) → AtOffset m k o x mode is r → (look : Look) (n : ℕ) (i : Invocation) →
       invocation_of mode.invocations n ≡ Some i → i.s.0 < o → o < i.e.0 → phase_three x look r ≡ r
   phase_three-inside r stands look n i at begun open' =
       let none : switch_target r x look ≡ None = switch_target-is m k o x mode is r stands look
@@ -119,15 +121,15 @@ module _ (m : Module) (k o x : ℕ) (mode : Mode) (is : slice_get m.modes k ≡ 
       let s : i.s.0 ≡ j.s.0 = ap (λ (i : Invocation). i.s.0) it in
       omega (arith, s, start, begun)
 
-  -- text, mode and base are as before, and task t is as phase 1 leaves it
+  -- definition, mode and base are as before, and task t is as phase 1 leaves it
   pub record KeptOpen (r r' : ModuleState) (t : ℕ) : Type 0 where
-    pub text : r'.text ≡ r.text
+    pub definition : r'.definition ≡ r.definition
     pub mode' : r'.mode ≡ r.mode
     pub base : r'.base ≡ r.base
     pub at : slice_get r'.tasks t ≡ option_map (task_after r x) (slice_get r.tasks t)
 
   -- inside an invocation the module goes on, and the invocation's task has phase 1 alone
-  pub open_task : (r : ModuleState) → Stands m k o x mode is r →
+  pub open_task : (r : ModuleState) → AtOffset m k o x mode is r →
       (kk : ℕ) (sensed : Sensed) (seen : PortKey → ℤ) (t q : ℕ) (i : Invocation) →
       invocation_of mode.invocations q ≡ Some i → i.task.0 ≡ t → i.s.0 < o → o < i.e.0 →
       KeptOpen r (alone kk x sensed seen r) t
@@ -136,7 +138,8 @@ module _ (m : Module) (k o x : ℕ) (mode : Mode) (is : slice_get m.modes k ≡ 
       let look : Look = look_of kk (phase_one x r).tasks sensed seen in
       let one : ModuleState = phase_one x r in
       let two : ModuleState = phase_two x look one in
-      let in_two : Stands m k o x mode is two = record { text = stands.text; mode' = stands.mode'; now = stands.now } in
+      let in_two : AtOffset m k o x mode is two =
+      record { definition = stands.definition; mode' = stands.mode'; now = stands.now } in
       let three : phase_three x look two ≡ two = phase_three-inside two in_two look q i at begun open' in
       let after : slice_get one.tasks t ≡ option_map (task_after r x) (slice_get r.tasks t) =
       slice_get-map (task_after r x) r.tasks t in
@@ -148,14 +151,14 @@ module _ (m : Module) (k o x : ℕ) (mode : Mode) (is : slice_get m.modes k ≡ 
       (ap (λ l. slice_get l n) (sym these) ∙ here) s task') in
       let whole : phase_four x look (phase_three x look two) ≡ phase_four x look two = ap (phase_four x look) three in
       record {
-        text = ap (λ (q : ModuleState). q.text) whole;
+        definition = ap (λ (q : ModuleState). q.definition) whole;
         mode' = ap (λ (q : ModuleState). q.mode) whole;
         base = ap (λ (q : ModuleState). q.base) whole;
         at = ap (λ (q : ModuleState). slice_get q.tasks t) whole ∙ four ∙ after;
       }
 
   -- a job that ends here is over
-  pub ended_task : (r : ModuleState) → Stands m k o x mode is r → (t : ℕ) (u : TaskState) (job : Job) →
+  pub ended_task : (r : ModuleState) → AtOffset m k o x mode is r → (t : ℕ) (u : TaskState) (job : Job) →
       slice_get r.tasks t ≡ Some u → u.active ≡ Some job → (j : IsJob k mode t o job) → j.invocation.e.0 ≡ o →
       slice_get (phase_one x r).tasks t ≡ Some (ended u job)
   ended_task r stands t u job at active j end =

@@ -4,28 +4,17 @@ use Rattle.std.specs.Prelude.{slice_index_or, option_map, unwrap_or, if◌then�
 use Rattle.tdl_base.specs.Lists.{joined, numbered}
 use Rattle.tdl_base.specs.declared.numbers.PortKey.{PortKey}
 use Rattle.tdl_trace.specs.Shown.{Shown}
-use Rattle.tdl_verify.specs.States.{Part, Times, Sensed, part_number, part_outputs, outputs_on}
+use Rattle.tdl_base.specs.Sensed.{Sensed}
+use Rattle.tdl_verify.specs.States.{Part, Times, part_number, part_outputs, outputs_on}
 use Rattle.tdl_verify.specs.Turns.{Spot, Turned, turn, due_of, due_in}
 use Rattle.tdl_verify.specs.Runs.{is_plain}
 use Rattle.tdl_base.proofs.SideBySide.{Zip}
 use Rattle.tdl_verify.proofs.Sweeps.{Move, NoneBelow, befores, afters, rows_from, costs_from}
+pub use Rattle.tdl_verify.specs.Sweeps.{Any}
 use Rattle.tdl_verify.proofs.WholeTurn.{Finishes, node_turn}
 use Rattle.tdl_gen.proofs.HostMoves.{Sees}
-use Rattle.tdl_meaning.proofs.Every.{Every}
-
--- no condition on the parts
-abbrev pub Any : List Part → Type 0
-Any parts = Unit {0}
-
--- what is seen of a part: its number, and the outputs of its tasks after phase 1
-pub record View : Type 0 where
-  pub number : ℕ
-  pub outputs : ℕ → List ℤ
-
--- the output that is seen at a port, 0 where there is none
-abbrev pub seen_in : List View → PortKey → ℤ
-seen_in vs key = slice_index_or (unwrap_or (option_map (λ (v : View). v.outputs key.task.0)
-    (find (λ (v : View). v.number == key.module.0) vs)) []) key.output (pos 0)
+use Rattle.tdl_meaning.specs.AllItems.{Every}
+use Rattle.tdl_meaning.specs.OneNode.{View, seen_in}
 
 -- the moves of part q in the four phases of instant x, with what is seen of it, what it comes to, its rows in phases 1
 -- to 3, and the most instructions that it takes
@@ -260,7 +249,7 @@ module _ (x node : ℕ) (sensed : Sensed) (times : Times) (seen : PortKey → �
       ++ rows_from x node sensed times 2 (Sees seen ns) (twos qs gs)
       ++ rows_from x node sensed times 3 (Sees seen ns) (threes qs gs)
       ++ rows_from x node sensed times 4 (Sees seen ns) (fours qs gs) in
-      let finishes : Finishes x node sensed times Any (Sees seen ns) declared
+      let finishes : Finishes x node sensed times declared
       (befores x node sensed times 1 Any (ones qs gs))
       (afters x node sensed times 4 (Sees seen ns) (fours qs gs)) rows =
       node_turn x node sensed times Any (Sees seen ns) declared (ones qs gs) (twos qs gs) (threes qs gs)

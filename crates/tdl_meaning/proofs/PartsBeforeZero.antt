@@ -12,32 +12,29 @@ use Rattle.tdl_image.specs.declared.stub.Stub.{Stub}
 use Rattle.tdl_image.specs.declared.stub.Receive.{Receive}
 use Rattle.tdl_verify.specs.States.{HostNow, StubNow, Part, NodeNow, host_first, stub_first, stub_initials, node_first}
 use Rattle.tdl_gen.specs.Tables.{hosted_of, stub_of}
-use Rattle.tdl_gen.specs.Realises.{image_of}
-use Rattle.tdl_gen.proofs.PartOrder.{part_at, parts-are}
-use Rattle.tdl_meaning.proofs.EntryFacts.{EntryFact, Got}
-use Rattle.tdl_meaning.proofs.FramesOnBus.{WellReceive}
-use Rattle.tdl_meaning.proofs.EntriesDelivered.{Sender}
-use Rattle.tdl_meaning.proofs.EntryLists.{AllEntries}
-use Rattle.tdl_meaning.proofs.AllParts.{AllNodes}
+use Rattle.tdl_gen.specs.Realises.{image_of, part_at}
+use Rattle.tdl_gen.proofs.PartOrder.{parts-are}
 use Rattle.tdl_meaning.specs.Accepted.{Accepted}
-use Rattle.tdl_meaning.proofs.Every.{Every}
+use Rattle.tdl_meaning.specs.Entries.{EntryFact, Got}
+use Rattle.tdl_meaning.specs.BusTables.{WellReceive, Sender}
+use Rattle.tdl_meaning.specs.AllItems.{AllEntries, AllNodes, Every}
 
 module _ (given : Accepted) where
   -- a host of node j before instant 0: the compiler's, of a module that the node hosts
   pub record HostAt (j : ℕ) (h : Hosted) (s : HostNow) : Type 0 where
-    pub text : Module
-    pub there : slice_get given.program.modules h.number.0 ≡ Some text
-    pub is : Part.Host h s ≡ host_first (hosted_of given.schedule h.number.0 text)
-    pub tables : h ≡ hosted_of given.schedule h.number.0 text
+    pub definition : Module
+    pub there : slice_get given.program.modules h.number.0 ≡ Some definition
+    pub is : Part.Host h s ≡ host_first (hosted_of given.schedule h.number.0 definition)
+    pub tables : h ≡ hosted_of given.schedule h.number.0 definition
     pub hosted : hosts given.placement j h.number.0 ≡ true
 
   -- a stub of node j before instant 0: the compiler's, of a module that the node imports and does not host
   pub record StubAt (j : ℕ) (q : Stub) (t : StubNow) : Type 0 where
-    pub text : Module
-    pub there : slice_get given.program.modules q.number.0 ≡ Some text
+    pub definition : Module
+    pub there : slice_get given.program.modules q.number.0 ≡ Some definition
     pub is : Part.Outside q t ≡ stub_first q
     pub entries : t.entries ≡ map (λ (e : Receive). record { copy = stub_initials q e.task; due = None }) q.entries
-    pub tables : q ≡ stub_of given.program given.placement given.schedule q.number.0 text
+    pub tables : q ≡ stub_of given.program given.placement given.schedule q.number.0 definition
     pub away : hosts given.placement j q.number.0 ≡ false
     pub near : imports given.program given.placement j q.number.0 ≡ true
 
@@ -66,9 +63,10 @@ module _ (given : Accepted) where
           Every (PartAt j) ((if b then host_first (hosted_of given.schedule n m) ∷ [] else
           (if c then stub_first (stub_of given.program given.placement given.schedule n m) ∷ [] else []))
           ++ parts_from j (suc n) ms)
-      by_test rest there true e c f = (record { text = m; there = there; is = refl; tables = refl; hosted = e }, rest)
+      by_test rest there true e c f =
+          (record { definition = m; there = there; is = refl; tables = refl; hosted = e }, rest)
       by_test rest there false e true f = (
-        record { text = m; there = there; is = refl; entries = refl; tables = refl; away = e; near = f },
+        record { definition = m; there = there; is = refl; entries = refl; tables = refl; away = e; near = f },
         rest,
       )
       by_test rest there false e false f = rest

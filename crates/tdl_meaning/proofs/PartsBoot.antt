@@ -7,16 +7,16 @@ use Rattle.tdl_mode.specs.States.{look_of}
 use Rattle.tdl_trace.specs.Shown.{Shown}
 use Rattle.tdl_image.specs.declared.hosted.Hosted.{Hosted}
 use Rattle.tdl_image.specs.declared.stub.Stub.{Stub}
-use Rattle.tdl_verify.specs.States.{HostNow, Part, Times, Sensed, part_number, part_outputs, host_first, stub_first, stub_initials}
+use Rattle.tdl_base.specs.Sensed.{Sensed}
+use Rattle.tdl_verify.specs.States.{HostNow, Part, Times, part_number, host_first, stub_first, stub_initials}
 use Rattle.tdl_verify.specs.Turns.{due_of, due_entries}
 use Rattle.tdl_gen.specs.Counts.{module_count}
 use Rattle.tdl_gen.specs.Tables.{hosted_of}
-use Rattle.tdl_meaning.proofs.HostFacts.{HostAfter}
 use Rattle.tdl_gen.proofs.HostMoves.{Apart, Sees}
 use Rattle.tdl_meaning.proofs.PhaseFour.{Timely}
 use Rattle.tdl_meaning.proofs.IdleTurn.{idle_move}
 use Rattle.tdl_meaning.proofs.CoveredWindows.{all_covered}
-use Rattle.tdl_meaning.proofs.PartMoves.{Any, comes_also, View, seen_in, PartMoves, NodeTurned, rows_in, shares_in, node_turned}
+use Rattle.tdl_meaning.proofs.PartMoves.{Any, comes_also, PartMoves, NodeTurned, rows_in, shares_in, node_turned}
 use Rattle.tdl_base.proofs.SideBySide.{Zip}
 use Rattle.std.proofs.lemmas.Option.{same_Some}
 use Rattle.tdl_mode.specs.Instants.{entered}
@@ -24,7 +24,9 @@ use Rattle.tdl_mode.specs.Phases.{phase_four}
 use Rattle.tdl_image.specs.declared.stub.Receive.{Receive}
 use Rattle.tdl_meaning.proofs.BootTurn.{boot_turn}
 use Rattle.tdl_meaning.specs.Accepted.{Accepted}
-use Rattle.tdl_meaning.proofs.Every.{Every}
+use Rattle.tdl_meaning.specs.HostInStep.{HostAfter}
+use Rattle.tdl_meaning.specs.AllItems.{Every}
+use Rattle.tdl_meaning.specs.OneNode.{first_view, first_sees}
 
 -- entries without a trigger are not due
 none_due : (x q k : ℕ) (p : Stub) (n : ℕ) (es : List Receive) (copy : Receive → List ℤ) →
@@ -37,9 +39,9 @@ module _ (given : Accepted) (node : ℕ) (sensed : Sensed) (times : Times)
     (timely : (n : ℕ) (m : Module) → slice_get given.program.modules n ≡ Some m → Timely times n m) where
   -- a hosted module before instant 0
   pub record FirstHost (h : Hosted) (s : HostNow) : Type 0 where
-    pub text : Module
-    pub there : slice_get given.program.modules h.number.0 ≡ Some text
-    pub is : Part.Host h s ≡ host_first (hosted_of given.schedule h.number.0 text)
+    pub definition : Module
+    pub there : slice_get given.program.modules h.number.0 ≡ Some definition
+    pub is : Part.Host h s ≡ host_first (hosted_of given.schedule h.number.0 definition)
 
   -- a part before instant 0
   abbrev pub First : Part → Type 0
@@ -52,16 +54,12 @@ module _ (given : Accepted) (node : ℕ) (sensed : Sensed) (times : Times)
 
   -- a part's share of the declared count: a stub takes nothing at instant 0
   abbrev pub share : (q : Part) → First q → ℕ
-  share (Part.Host h s) g = module_count g.text
+  share (Part.Host h s) g = module_count g.definition
   share (Part.Outside q t) g = 0
 
   -- the shares of all parts
   abbrev pub shares : (qs : List Part) → AllFirst qs → ℕ
   shares qs gs = shares_in First share qs gs
-
-  -- what is seen at instant 0: the initial outputs
-  abbrev pub view : (q : Part) → View
-  view q = record { number = part_number q; outputs = λ t. part_outputs q t }
 
   -- what the node sees of its parts, and their numbers
   module _ (seen : PortKey → ℤ) (ns : List ℕ) (apart : Apart ns) where
@@ -74,12 +72,12 @@ module _ (given : Accepted) (node : ℕ) (sensed : Sensed) (times : Times)
 
     -- the row of a part: the start mode of a host
     abbrev pub entry_row : (q : Part) → First q → List Shown
-    entry_row (Part.Host h s) g = Shown.Entered 0 node h.number.0 g.text.start.0 ∷ []
+    entry_row (Part.Host h s) g = Shown.Mode 0 node h.number.0 g.definition.start.0 ∷ []
     entry_row (Part.Outside q t) g = []
 
     -- the moves of a part with row `entry` and share `most`
     abbrev Moves : Part → List Shown → ℕ → Type 0
-    Moves q entry most = PartMoves 0 node sensed times seen ns q (view q) (Stepped q) [] [] entry most
+    Moves q entry most = PartMoves 0 node sensed times seen ns q (first_view q) (Stepped q) [] [] entry most
 
     -- the moves of a stub
     stub_moves : (q : Stub) → Moves (stub_first q) [] 0
@@ -111,7 +109,7 @@ module _ (given : Accepted) (node : ℕ) (sensed : Sensed) (times : Times)
 
     -- the moves of a hosted module
     host_moves : (k : ℕ) (m : Module) → slice_get given.program.modules k ≡ Some m →
-        Moves (host_first (hosted_of given.schedule k m)) (Shown.Entered 0 node k m.start.0 ∷ []) (module_count m)
+        Moves (host_first (hosted_of given.schedule k m)) (Shown.Mode 0 node k m.start.0 ∷ []) (module_count m)
     host_moves k m there =
         comes_also (boot_turn given k m (given.well_formed.modules k m there)
         (all_covered given k m there (given.well_formed.modules k m there)) node sensed times
@@ -126,8 +124,9 @@ module _ (given : Accepted) (node : ℕ) (sensed : Sensed) (times : Times)
     -- the moves of each part
     made : (q : Part) (g : First q) → Moves q (entry_row q g) (share q g)
     made (Part.Host h s) g =
-        subst (λ q. Moves q (Shown.Entered 0 node h.number.0 g.text.start.0 ∷ []) (module_count g.text)) (sym g.is)
-        (host_moves h.number.0 g.text g.there)
+        subst (λ q. Moves q (Shown.Mode 0 node h.number.0 g.definition.start.0 ∷ []) (module_count g.definition))
+        (sym g.is)
+        (host_moves h.number.0 g.definition g.there)
     made (Part.Outside q t) g = subst (λ p. Moves p [] 0) (sym g) (stub_moves q)
 
     -- each part comes to its state
@@ -150,9 +149,9 @@ module _ (given : Accepted) (node : ℕ) (sensed : Sensed) (times : Times)
 
     -- so it does where the node sees the initial outputs, and the shares of its parts are within the declared count
     pub boot_done : (declared : ℕ) (qs : List Part) (gs : AllFirst qs) → ns ≡ map part_number qs →
-        seen ≡ seen_in (map view qs) → shares qs gs ≤ declared → BootDone declared qs gs
+        seen ≡ first_sees qs → shares qs gs ≤ declared → BootDone declared qs gs
     boot_done declared qs gs are sees enough =
         subst (NodeTurned 0 node sensed times Stepped declared qs)
         (λ q. rows-none qs gs q ++ rows-none qs gs q ++ entered_rows qs gs)
-        (node_turned 0 node sensed times seen ns First view (λ q. refl) Stepped (λ q g. []) (λ q g. []) entry_row share
-        made declared qs gs are sees enough)
+        (node_turned 0 node sensed times seen ns First first_view (λ q. refl) Stepped (λ q g. []) (λ q g. []) entry_row
+        share made declared qs gs are sees enough)

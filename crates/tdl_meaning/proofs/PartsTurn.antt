@@ -1,36 +1,36 @@
 -- The turn of a node of hosted modules and stubs at an instant above 0, whatever its stubs received, is in step with
 -- the logical instant.
 use Rattle.std.proofs.Common.{◌≡◌, ℕ, ◌≤◌, ℤ, List, [], ◌∷◌, ◌++◌, map, length, Bool, true, false, ◌==◌, Some, refl, ap, sym, ◌∙◌, subst, arith}
-use Rattle.std.specs.Prelude.{slice_get, option_map, unwrap_or}
+use Rattle.std.specs.Prelude.{flat_map, slice_get}
 use Rattle.std.proofs.lemmas.Bool.{eqb-true}
 use Rattle.tdl_base.specs.declared.numbers.PortKey.{PortKey}
 use Rattle.tdl_mode.specs.declared.program.Module.{Module}
-use Rattle.tdl_mode.specs.States.{TaskState, ModuleState, look_of}
-use Rattle.tdl_mode.specs.Phases.{phase_one}
+use Rattle.tdl_mode.specs.States.{ModuleState}
 use Rattle.tdl_mode.specs.Instants.{alone}
 use Rattle.tdl_deploy.specs.Placed.{hosts}
 use Rattle.tdl_trace.specs.Shown.{Shown}
 use Rattle.tdl_image.specs.declared.hosted.Hosted.{Hosted}
 use Rattle.tdl_image.specs.declared.stub.Stub.{Stub}
-use Rattle.tdl_verify.specs.States.{HostNow, StubNow, Part, Times, Sensed, part_number, part_outputs}
+use Rattle.tdl_base.specs.Sensed.{Sensed}
+use Rattle.tdl_verify.specs.States.{HostNow, StubNow, Part, Times, part_number}
 use Rattle.tdl_gen.specs.Counts.{module_count, stub_count}
 use Rattle.tdl_gen.specs.Tables.{hosted_of}
-use Rattle.tdl_meaning.proofs.HostFacts.{HostFacts, HostAfter}
 use Rattle.tdl_gen.proofs.Takes.{OwnBlocks}
-use Rattle.tdl_gen.proofs.StubMoves.{taken, taken_rows, in_one, other_phase, takes_move, stub_quiet}
-use Rattle.tdl_meaning.proofs.TakeCounts.{OfMode, takes_fit}
+use Rattle.tdl_gen.proofs.StubMoves.{taken, in_one, other_phase, takes_move, stub_quiet}
+use Rattle.tdl_gen.specs.Takes.{OfMode}
+use Rattle.tdl_gen.proofs.TakeCounts.{takes_fit}
 use Rattle.tdl_gen.proofs.HostMoves.{Apart, Sees}
 use Rattle.tdl_meaning.proofs.PhaseFour.{Timely}
-use Rattle.tdl_deploy.specs.Rows.{module_port_rows, module_act_rows, module_mode_rows}
 use Rattle.tdl_meaning.proofs.HostTurns.{HostTurn}
 use Rattle.tdl_meaning.proofs.DueTurn.{due_turn}
 use Rattle.tdl_meaning.proofs.IdleTurn.{idle_move, idle_turn}
 use Rattle.tdl_meaning.proofs.CoveredWindows.{all_covered}
-use Rattle.tdl_meaning.proofs.PartMoves.{Any, comes_also, View, seen_in, PartMoves, NodeTurned, rows_in, shares_in, node_turned}
-use Rattle.tdl_base.proofs.SideBySide.{Zip}
+use Rattle.tdl_meaning.proofs.PartMoves.{Any, comes_also, PartMoves, NodeTurned, rows_in, shares_in, node_turned}
 use Rattle.std.proofs.lemmas.Option.{same_Some}
 use Rattle.tdl_meaning.specs.Accepted.{Accepted}
-use Rattle.tdl_meaning.proofs.Every.{Every}
+use Rattle.tdl_meaning.specs.HostInStep.{HostFacts, HostAfter}
+use Rattle.tdl_meaning.specs.AllItems.{Every}
+use Rattle.tdl_meaning.specs.OneNode.{view, node_sees, Stepped, port_rows_of, act_rows_of, mode_rows_of, node_shows}
 
 -- node `node` at instant x, its jobs within their worst cases, and the logical states before the instant
 module _ (given : Accepted) (x node : ℕ) (sensed : Sensed) (times : Times)
@@ -38,11 +38,11 @@ module _ (given : Accepted) (x node : ℕ) (sensed : Sensed) (times : Times)
     (logic : ℕ → ModuleState) where
   -- a hosted module before the turn
   pub record GoodHost (h : Hosted) (s : HostNow) : Type 0 where
-    pub text : Module
-    pub there : slice_get given.program.modules h.number.0 ≡ Some text
-    pub tables : h ≡ hosted_of given.schedule h.number.0 text
+    pub definition : Module
+    pub there : slice_get given.program.modules h.number.0 ≡ Some definition
+    pub tables : h ≡ hosted_of given.schedule h.number.0 definition
     pub hosted : hosts given.placement node h.number.0 ≡ true
-    pub facts : HostFacts text (hosted_of given.schedule h.number.0 text) x (logic h.number.0) s
+    pub facts : HostFacts definition (hosted_of given.schedule h.number.0 definition) x (logic h.number.0) s
 
   -- a stub before the turn: each entry has its block, and those that are due are of one mode
   pub record GoodStub (q : Stub) (t : StubNow) : Type 0 where
@@ -60,26 +60,14 @@ module _ (given : Accepted) (x node : ℕ) (sensed : Sensed) (times : Times)
   abbrev pub AllGood : List Part → Type 0
   AllGood qs = Every Good qs
 
-  -- what is seen of a part after phase 1: the logical outputs of a module, and what a stub took
-  abbrev pub view : Part → View
-  view (Part.Host h s) = record {
-    number = h.number.0;
-    outputs = λ t. unwrap_or (option_map (λ (u : TaskState). u.outputs)
-        (slice_get (phase_one x (logic h.number.0)).tasks t)) [];
-  }
-  view (Part.Outside q t) = record {
-    number = q.number.0;
-    outputs = λ o. part_outputs (Part.Outside q (taken x q t)) o;
-  }
-
   -- a view has the number of its part
-  view-number : (q : Part) → (view q).number ≡ part_number q
+  view-number : (q : Part) → (view x logic q).number ≡ part_number q
   view-number (Part.Host h s) = refl
   view-number (Part.Outside q t) = refl
 
   -- a part's share of the declared count
   abbrev pub share : (q : Part) → Good q → ℕ
-  share (Part.Host h s) g = module_count g.text
+  share (Part.Host h s) g = module_count g.definition
   share (Part.Outside q t) g = stub_count q
 
   -- the shares of all parts
@@ -88,34 +76,26 @@ module _ (given : Accepted) (x node : ℕ) (sensed : Sensed) (times : Times)
 
   -- what the node sees of its parts after phase 1, and their numbers
   module _ (seen : PortKey → ℤ) (ns : List ℕ) (apart : Apart ns) where
-    -- what a part comes to: a host to its logical state, a stub takes what is due
-    abbrev pub Stepped : Part → Part → Type 0
-    Stepped (Part.Host h s) after = (s' : HostNow) × (after ≡ Part.Host h s')
-        × ((m : Module) → slice_get given.program.modules h.number.0 ≡ Some m →
-        HostAfter m h x (alone h.number.0 x sensed seen (logic h.number.0)) s')
-    Stepped (Part.Outside q t) after = after ≡ Part.Outside q (taken x q t)
+    -- what a part comes to
+    abbrev Steps : Part → Part → Type 0
+    Steps = Stepped given x sensed (λ kk. seen) logic
 
-    -- the rows of a part in phase 1
-    abbrev pub rows_of_ends : Part → List Shown
-    rows_of_ends (Part.Host h s) = module_port_rows given.program given.placement node x h.number.0 (logic h.number.0)
-    rows_of_ends (Part.Outside q t) = taken_rows x node q q.entries t.entries
+    -- its rows in phase 1
+    abbrev ports : Part → List Shown
+    ports = port_rows_of given x node logic
 
-    -- the rows of a part in phase 2
-    abbrev pub rows_of_updates : Part → List Shown
-    rows_of_updates (Part.Host h s) = module_act_rows x node h.number.0 (phase_one x (logic h.number.0))
-        (look_of h.number.0 (phase_one x (logic h.number.0)).tasks sensed seen)
-    rows_of_updates (Part.Outside q t) = []
+    -- its rows in phase 2
+    abbrev acts : Part → List Shown
+    acts = act_rows_of given x node sensed seen logic
 
-    -- the rows of a part in phase 3
-    abbrev pub rows_of_modes : Part → List Shown
-    rows_of_modes (Part.Host h s) = module_mode_rows x node h.number.0 (logic h.number.0)
-        (alone h.number.0 x sensed seen (logic h.number.0))
-    rows_of_modes (Part.Outside q t) = []
+    -- its rows in phase 3
+    abbrev modes : Part → List Shown
+    modes = mode_rows_of given x node sensed seen logic
 
     -- the moves of a part, with what it comes to, its rows and its share
     abbrev Moves : Part → ℕ → Type 0
-    Moves q most = PartMoves x node sensed times seen ns q (view q) (Stepped q)
-        (rows_of_ends q) (rows_of_updates q) (rows_of_modes q) most
+    Moves q most = PartMoves x node sensed times seen ns q (view x logic q) (Steps q)
+        (ports q) (acts q) (modes q) most
 
     -- a hosted module makes its turn in step with its logical instant, whether its trigger is due or not
     host_turn : (k : ℕ) (m : Module) (s : HostNow) (there : slice_get given.program.modules k ≡ Some m)
@@ -147,8 +127,8 @@ module _ (given : Accepted) (x node : ℕ) (sensed : Sensed) (times : Times)
     -- the moves of each part
     made : (q : Part) (g : Good q) → Moves q (share q g)
     unfolding takes_move idle_move
-    made (Part.Host h s) g = subst (λ c. Moves (Part.Host c s) (module_count g.text)) (sym g.tables)
-        (host_moves h.number.0 g.text s g.there g.hosted g.facts)
+    made (Part.Host h s) g = subst (λ c. Moves (Part.Host c s) (module_count g.definition)) (sym g.tables)
+        (host_moves h.number.0 g.definition s g.there g.hosted g.facts)
     made (Part.Outside q t) g =
         let after : Part = Part.Outside q (taken x q t) in
         let fit = takes_fit x g.mode q t.entries g.size g.of in
@@ -174,33 +154,20 @@ module _ (given : Accepted) (x node : ℕ) (sensed : Sensed) (times : Times)
           cost = omega (arith, fit);
         }
 
-    -- each part comes to its state
-    abbrev pub AllStepped : List Part → List Part → Type 0
-    AllStepped qs rs = Zip Stepped qs rs
-
-    -- the rows of all parts in one phase
-    abbrev pub rows_of : (Part → List Shown) → List Part → List Shown
-    rows_of f [] = []
-    rows_of f (q ∷ qs) = f q ++ rows_of f qs
-
     -- rows that depend on the part alone
     rows-plain : (f : Part → List Shown) (qs : List Part) (gs : AllGood qs) →
-        rows_in Good (λ q g. f q) qs gs ≡ rows_of f qs
+        rows_in Good (λ q g. f q) qs gs ≡ flat_map f qs
     rows-plain f [] gs = refl
     rows-plain f (q ∷ qs) gs = ap (λ l. f q ++ l) (rows-plain f qs gs.1)
 
-    -- the turn ends without a trap, each part comes to its state, and the plain rows are those of the parts, phase by
-    -- phase
-    abbrev pub NodeDone : ℕ → List Part → Type 0
-    NodeDone declared qs = NodeTurned x node sensed times Stepped declared qs
-        (rows_of rows_of_ends qs ++ rows_of rows_of_updates qs ++ rows_of rows_of_modes qs)
-
-    -- so it does where the node sees its parts after phase 1, and their shares are within the declared count
+    -- the turn ends without a trap, each part comes to its state, and the plain rows are those of the parts, where the
+    -- node sees its parts after phase 1, and their shares are within the declared count
     pub node_finishes : (declared : ℕ) (qs : List Part) (gs : AllGood qs) → ns ≡ map part_number qs →
-        seen ≡ seen_in (map view qs) → shares qs gs ≤ declared → NodeDone declared qs
+        seen ≡ node_sees x logic qs → shares qs gs ≤ declared →
+        NodeTurned x node sensed times Steps declared qs (node_shows given x node sensed seen logic qs)
     node_finishes declared qs gs are sees enough =
-        subst (NodeTurned x node sensed times Stepped declared qs)
-        (λ q. rows-plain rows_of_ends qs gs q ++ rows-plain rows_of_updates qs gs q ++ rows-plain rows_of_modes qs gs q)
-        (node_turned x node sensed times seen ns Good view view-number Stepped
-        (λ q g. rows_of_ends q) (λ q g. rows_of_updates q) (λ q g. rows_of_modes q) share made
+        subst (NodeTurned x node sensed times Steps declared qs)
+        (λ q. rows-plain ports qs gs q ++ rows-plain acts qs gs q ++ rows-plain modes qs gs q)
+        (node_turned x node sensed times seen ns Good (view x logic) view-number Steps
+        (λ q g. ports q) (λ q g. acts q) (λ q g. modes q) share made
         declared qs gs are sees enough)

@@ -16,15 +16,16 @@ use Rattle.tdl_mode.specs.Offsets.{is_offset, next_offset, offset_list}
 use Rattle.tdl_mode.specs.States.{TaskState, ModuleState, invocation_of, invocations_now, look_of}
 use Rattle.tdl_mode.specs.Phases.{released, releases, phase_four}
 use Rattle.tdl_image.specs.declared.hosted.Hosted.{Hosted}
-use Rattle.tdl_verify.specs.States.{TaskNow, HostNow, Part, Times, Sensed}
+use Rattle.tdl_base.specs.Sensed.{Sensed}
+use Rattle.tdl_verify.specs.States.{TaskNow, HostNow, Part, Times}
 use Rattle.tdl_gen.specs.BlockNames.{BlockName, block_number}
 use Rattle.tdl_gen.specs.Blocks.{mode_block}
 use Rattle.tdl_gen.specs.Counts.{greatest, length_of, at_offsets, has_starts}
 use Rattle.tdl_gen.specs.Tables.{hosted_of}
 use Rattle.tdl_mode.specs.WellFormed.{WellMode, WellModule}
 use Rattle.tdl_mode.specs.Grains.{DividesCycles}
-use Rattle.tdl_meaning.proofs.HostFacts.{TaskPairs, ReleasePairs, covers_of, TaskPair, pairs_kept, pairs_outputs, WellLets, AtRelease, HostAfter, worst_of}
-use Rattle.tdl_meaning.proofs.PhasesAtOffset.{Stands, present-is}
+use Rattle.tdl_meaning.proofs.HostFacts.{ReleasePairs, pairs_kept, pairs_outputs, WellLets, AtRelease}
+use Rattle.tdl_meaning.proofs.PhasesAtOffset.{AtOffset, present-is}
 use Rattle.tdl_gen.proofs.StartBlocks.{all_started, outputs-all}
 use Rattle.tdl_meaning.proofs.ReleasesInStep.{Ready, Released, releases_pairs}
 use Rattle.tdl_meaning.proofs.HostTables.{tables_of, tables_of-is, has_start}
@@ -33,42 +34,48 @@ use Rattle.tdl_gen.proofs.Budget.{at_most}
 use Rattle.tdl_verify.proofs.Sweeps.{Move}
 use Rattle.tdl_gen.proofs.HostMoves.{Apart, Sees, starts_move}
 use Rattle.tdl_meaning.specs.Accepted.{Accepted}
+use Rattle.tdl_deploy.specs.AtRelease.{worst_case_of}
+use Rattle.tdl_meaning.specs.HostInStep.{TaskPairs, covers_of, TaskPair, HostAfter}
+use Rattle.std.proofs.lemmas.Option.{slice_get_within}
 
--- the texts of tasks
-abbrev pub texts : List TaskState → List Task
-texts us = map (λ (u : TaskState). u.text) us
+-- the definitions of tasks
+abbrev pub definitions : List TaskState → List Task
+definitions us = map (λ (u : TaskState). u.definition) us
 
--- a change of one task that keeps its text keeps all texts
-texts-changed : (t : ℕ) (f : TaskState → TaskState) → ((u : TaskState) → (f u).text ≡ u.text) → (us : List TaskState) →
-    texts (changed_at t f us) ≡ texts us
-texts-changed t f keeps [] = refl
-texts-changed zero f keeps (u ∷ us) = ap (λ o. o ∷ texts us) (keeps u)
-texts-changed (suc t) f keeps (u ∷ us) = ap (λ os. u.text ∷ os) (texts-changed t f keeps us)
+-- a change of one task that keeps its definition keeps all definitions
+definitions-changed : (t : ℕ) (f : TaskState → TaskState) → ((u : TaskState) → (f u).definition ≡ u.definition) →
+    (us : List TaskState) →
+    definitions (changed_at t f us) ≡ definitions us
+definitions-changed t f keeps [] = refl
+definitions-changed zero f keeps (u ∷ us) = ap (λ o. o ∷ definitions us) (keeps u)
+definitions-changed (suc t) f keeps (u ∷ us) = ap (λ os. u.definition ∷ os) (definitions-changed t f keeps us)
 
 -- and so does a change that is made or not
-texts-if : (c : Bool) (t : ℕ) (f : TaskState → TaskState) → ((u : TaskState) → (f u).text ≡ u.text) →
-    (us : List TaskState) → texts (if c then changed_at t f us else us) ≡ texts us
-texts-if true t f keeps us = texts-changed t f keeps us
-texts-if false t f keeps us = refl
+definitions-if : (c : Bool) (t : ℕ) (f : TaskState → TaskState) → ((u : TaskState) → (f u).definition ≡ u.definition) →
+    (us : List TaskState) → definitions (if c then changed_at t f us else us) ≡ definitions us
+definitions-if true t f keeps us = definitions-changed t f keeps us
+definitions-if false t f keeps us = refl
 
--- the releases of an instant keep the texts
-texts-released : (r : ModuleState) (x : ℕ) (look : Look) (n : ℕ) (is : List Invocation) (us : List TaskState) →
-    texts (releases r x look n is us) ≡ texts us
-texts-released r x look n [] us = refl
-texts-released r x look n (i ∷ is) us =
-    texts-released r x look (suc n) is
+-- the releases of an instant keep the definitions
+definitions-released : (r : ModuleState) (x : ℕ) (look : Look) (n : ℕ) (is : List Invocation) (us : List TaskState) →
+    definitions (releases r x look n is us) ≡ definitions us
+definitions-released r x look n [] us = refl
+definitions-released r x look n (i ∷ is) us =
+    definitions-released r x look (suc n) is
     (if r.base + i.s.0 == x && holds i.guard look then changed_at i.task.0 (released r.mode n i look) us else us)
-    ∙ texts-if (r.base + i.s.0 == x && holds i.guard look) i.task.0 (released r.mode n i look) (λ u. refl) us
+    ∙ definitions-if (r.base + i.s.0 == x && holds i.guard look) i.task.0 (released r.mode n i look) (λ u. refl) us
 
 -- the windows of an invocation cover nothing before its start, and the worst case of its task at its end
 pub record Covered (m : Module) (mode : Mode) (covers : ℕ → ℕ → ℕ) : Type 0 where
   pub early : (n : ℕ) (i : Invocation) → invocation_of mode.invocations n ≡ Some i → covers n i.s.0 ≡ 0
-  pub full : (n : ℕ) (i : Invocation) → invocation_of mode.invocations n ≡ Some i → worst_of m i.task.0 ≤ covers n i.e.0
+  pub full : (n : ℕ) (i : Invocation) → invocation_of mode.invocations n ≡ Some i →
+      worst_case_of m i.task.0 ≤ covers n i.e.0
 
 -- the invocations of a well-formed mode are apart, and each has the time that its task needs
-pub lets_of : (p : Program) (kk : ℕ) (m : Module) (k : ℕ) (mode : Mode) (covers : ℕ → ℕ → ℕ) → WellMode p kk m k mode →
-    Covered m mode covers → WellLets mode covers (worst_of m)
-lets_of p kk m k mode covers well covered = record {
+pub lets_of : (program : Program) (kk : ℕ) (m : Module) (k : ℕ) (mode : Mode) (covers : ℕ → ℕ → ℕ) →
+    WellMode program kk m k mode →
+    Covered m mode covers → WellLets mode covers (worst_case_of m)
+lets_of program kk m k mode covers well covered = record {
   lasts = λ n i at. (well.invocations n i at).lasts;
   apart = well.apart;
   full = covered.full;
@@ -81,13 +88,13 @@ pub record BeforeStarts (m : Module) (h : Hosted) (x : ℕ) (r : ModuleState) (s
   pub offset : ℕ
   pub off : is_offset mode offset ≡ true
   pub below : offset < mode.period.0
-  pub text : r.text ≡ m
+  pub definition : r.definition ≡ m
   pub now : x ≡ r.base + offset
   pub mode' : s.mode ≡ Some r.mode
   pub base : s.base ≡ r.base
   pub grain : (g : ℕ) → DividesCycles g m → g ∣ r.base
-  pub texts' : texts r.tasks ≡ m.tasks
-  pub tasks : ReleasePairs r.mode mode (covers_of r.mode h) (worst_of m) offset m.tasks 1 0 r.tasks s.tasks
+  pub texts' : definitions r.tasks ≡ m.tasks
+  pub tasks : ReleasePairs r.mode mode (covers_of r.mode h) (worst_case_of m) offset m.tasks 1 0 r.tasks s.tasks
   pub actuators : s.actuators ≡ r.actuators
   pub sizes : length r.actuators ≡ length m.actuators
   pub trigger : s.trigger ≡ Some (record { at = x + 0; block = block_number m (BlockName.Starts r.mode offset) })
@@ -95,7 +102,7 @@ pub record BeforeStarts (m : Module) (h : Hosted) (x : ℕ) (r : ModuleState) (s
 -- the jobs of this module take their time within the worst case
 abbrev pub Timely : Times → ℕ → Module → Type 0
 Timely times kk m = (t c : ℕ) (task : Task) → slice_get m.tasks t ≡ Some task →
-    (0 < times kk t c) × (times kk t c ≤ worst_of m t)
+    (0 < times kk t c) × (times kk t c ≤ worst_case_of m t)
 
 -- the windows of all invocations of a module cover what they must
 abbrev pub AllCovered : Module → Hosted → Type 0
@@ -158,16 +165,16 @@ module _ (given : Accepted) (kk : ℕ) (m : Module) (wm : WellModule given.progr
     next = next_offset mode o
 
     -- the module stands at this offset
-    stands : Stands m k o x mode f.at r
-    stands = record { text = f.text; mode' = refl; now = f.now }
+    stands : AtOffset m k o x mode f.at r
+    stands = record { definition = f.definition; mode' = refl; now = f.now }
 
     -- the invocations of its mode are apart and have their time
-    lets : WellLets mode covers (worst_of m)
+    lets : WellLets mode covers (worst_case_of m)
     lets = lets_of given.program kk m k mode covers (wm.modes k mode f.at) (covered k mode f.at)
 
     -- the releases can be made
     ready : (front back : List Part) →
-        Ready x node sensed times h block front back m k o look mode f.at covers (worst_of m) lets (tables_of m)
+        Ready x node sensed times h block front back m k o look mode f.at covers (worst_case_of m) lets (tables_of m)
     ready front back = record {
       tables' = tables_of-is m;
       timely = timely;
@@ -180,28 +187,24 @@ module _ (given : Accepted) (kk : ℕ) (m : Module) (wm : WellModule given.progr
         (invocation_of mode.invocations (1 + q) ≡ Some i) × (i.task.0 < length r.tasks)
     places q i at =
         let size : length r.tasks ≡ length m.tasks =
-        sym (length-map r.tasks (λ (u : TaskState). u.text)) ∙ ap length f.texts' in
+        sym (length-map r.tasks (λ (u : TaskState). u.definition)) ∙ ap length f.texts' in
         let e : 1 + q ≡ suc q = omega arith in
         let w = (wm.modes k mode f.at).invocations (suc q) i at in
-        let l : i.task.0 < length m.tasks = there m.tasks i.task.0 w.text w.task in
+        let l : i.task.0 < length m.tasks = slice_get_within m.tasks i.task.0 w.definition w.task in
         (ap (invocation_of mode.invocations) e ∙ at, omega (arith, l, size))
-      where
-        there : (ts : List Task) (t : ℕ) (task : Task) → slice_get ts t ≡ Some task → t < length ts
-        there [] t task at = absurd (cc at)
-        there (u ∷ us) zero task at = omega arith
-        there (u ∷ us) (suc t) task at = let l = there us t task at in omega (arith, l)
 
     -- the releases in the logical state and on the node
     releases_made : (front back : List Part) →
-        Released x node sensed times h block front back m k o look mode f.at covers (worst_of m) lets (tables_of m) 1
+        Released x node sensed times h block front back m k o look mode f.at covers (worst_case_of m) lets
+        (tables_of m) 1
         mode.invocations r.tasks s.tasks (releases r x look 1 mode.invocations r.tasks)
     releases_made front back =
-        releases_pairs x node sensed times h block front back m k o look mode f.at covers (worst_of m) lets
+        releases_pairs x node sensed times h block front back m k o look mode f.at covers (worst_case_of m) lets
         (tables_of m) r stands (ready front back) 1 mode.invocations r.tasks s.tasks places f.tasks
 
     -- the outputs of its tasks are the same before phase 4
     same : map (λ (w : TaskNow). w.outputs) s.tasks ≡ map (λ (u : TaskState). u.outputs) r.tasks
-    same = pairs_outputs (λ t u w. AtRelease k mode covers (worst_of m) o m.tasks 1 t u w) 0 r.tasks s.tasks
+    same = pairs_outputs (λ t u w. AtRelease k mode covers (worst_case_of m) o m.tasks 1 t u w) 0 r.tasks s.tasks
         (λ n u w a. a.pair.outputs) f.tasks
 
     -- phase 4 keeps the outputs
@@ -224,14 +227,14 @@ module _ (given : Accepted) (kk : ℕ) (m : Module) (wm : WellModule given.progr
         ap (λ q. unwrap_or (option_map (λ (d : Mode). d.invocations) q) []) (present-is m k o x mode f.at r stands)
 
     -- its tasks are in step after phase 4
-    tasks_after : TaskPairs k mode covers (worst_of m) (suc o) o 0
+    tasks_after : TaskPairs k mode covers (worst_case_of m) (suc o) o 0
         (releases r x look 1 (invocations_now r) r.tasks) made
     tasks_after =
         let last = releases_made [] [] in
-        subst (λ is. TaskPairs k mode covers (worst_of m) (suc o) o 0 (releases r x look 1 is r.tasks) made)
+        subst (λ is. TaskPairs k mode covers (worst_case_of m) (suc o) o 0 (releases r x look 1 is r.tasks) made)
         (sym invocations-now)
-        (pairs_kept (λ t u w. AtRelease k mode covers (worst_of m) o m.tasks last.last t u w)
-        (λ t u w. TaskPair k mode covers (worst_of m) t (suc o) o u w) 0
+        (pairs_kept (λ t u w. AtRelease k mode covers (worst_case_of m) o m.tasks last.last t u w)
+        (λ t u w. TaskPair k mode covers (worst_case_of m) t (suc o) o u w) 0
         (releases r x look 1 mode.invocations r.tasks) made (λ n u w a. a.pair) last.pairs)
 
     -- phase 4 of a hosted module is in step with that of its logical state
@@ -260,7 +263,7 @@ module _ (given : Accepted) (kk : ℕ) (m : Module) (wm : WellModule given.progr
             facts = record {
               mode = mode;
               at = f.at;
-              text = f.text;
+              definition = f.definition;
               above = omega arith;
               within = f.below;
               mode' = f.mode';
@@ -269,7 +272,7 @@ module _ (given : Accepted) (kk : ℕ) (m : Module) (wm : WellModule given.progr
               next = next;
               is_next = next_is mode o f.below;
               trigger = ap (λ a. Some (record { at = a; block = block_number m (BlockName.Ends k next) })) at_next;
-              texts = texts-released r x look 1 (invocations_now r) r.tasks ∙ f.texts';
+              definitions = definitions-released r x look 1 (invocations_now r) r.tasks ∙ f.texts';
               tasks = tasks_after;
               actuators = f.actuators;
               sizes = f.sizes;

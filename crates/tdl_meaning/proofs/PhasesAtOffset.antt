@@ -1,5 +1,5 @@
 -- The blocks of a hosted module in step with the phases of its logical instant.
-use Rattle.std.proofs.Common.{◌≡◌, ℕ, zero, suc, ◌+◌, ◌≤◌, ℤ, List, [], ◌∷◌, map, Bool, true, false, ◌&&◌, ◌==◌, Option, Some, None, filter, refl, ap, ap₂, sym, ◌∙◌, subst₂, arith}
+use Rattle.std.proofs.Common.{◌<◌, ◌≡◌, ℕ, zero, suc, ◌+◌, ◌≤◌, ℤ, List, [], ◌∷◌, map, Bool, true, false, ◌&&◌, ◌==◌, Option, Some, None, filter, refl, ap, ap₂, sym, ◌∙◌, subst₂, arith}
 use Rattle.std.specs.Prelude.{slice_get, option_map, unwrap_or, if◌then◌else◌, find}
 use Rattle.std.specs.List.{list_any}
 use Rattle.std.proofs.lemmas.Bool.{eqb-true, eq-eqb, and_parts}
@@ -16,8 +16,9 @@ use Rattle.tdl_mode.specs.States.{Job, TaskState, ModuleState, present, invocati
 use Rattle.tdl_mode.specs.Phases.{has_ended, task_after, taken_update, update_value, switch_target, is_over}
 use Rattle.tdl_verify.specs.States.{Slot, TaskNow}
 use Rattle.tdl_verify.proofs.EndBlocks.{committed, ended_tasks}
-use Rattle.tdl_meaning.proofs.HostFacts.{TaskPairs, IsJob, SlotPair, TaskPair, WellLets}
+use Rattle.tdl_meaning.proofs.HostFacts.{WellLets}
 use Rattle.tdl_base.proofs.Finding.{find-filter, find-same, Passing, any-passing, passing-any}
+use Rattle.tdl_meaning.specs.HostInStep.{TaskPairs, IsJob, SlotPair, TaskPair}
 
 -- an offset of the cycle is at instant base + o where it is o
 moved : (base at o : ℕ) → (base + at == base + o) ≡ (at == o)
@@ -25,23 +26,23 @@ moved base at o = grind (arith, nat_tests)
 
 module _ (m : Module) (k o x : ℕ) (mode : Mode) (is : slice_get m.modes k ≡ Some mode) where
   -- the module is in this mode, and x is at offset o of its cycle
-  pub record Stands (r : ModuleState) : Type 0 where
-    pub text : r.text ≡ m
+  pub record AtOffset (r : ModuleState) : Type 0 where
+    pub definition : r.definition ≡ m
     pub mode' : r.mode ≡ k
     pub now : x ≡ r.base + o
 
   -- the present mode of the module
-  pub present-is : (r : ModuleState) → Stands r → present r ≡ Some mode
-  present-is r stands = ap₂ (λ (t : Module) n. slice_get t.modes n) stands.text stands.mode' ∙ is
+  pub present-is : (r : ModuleState) → AtOffset r → present r ≡ Some mode
+  present-is r stands = ap₂ (λ (t : Module) n. slice_get t.modes n) stands.definition stands.mode' ∙ is
 
   -- an offset of the cycle is at this instant where it is o
-  pub at_now : (r : ModuleState) → Stands r → (at : ℕ) → (r.base + at == x) ≡ (at == o)
+  pub at_now : (r : ModuleState) → AtOffset r → (at : ℕ) → (r.base + at == x) ≡ (at == o)
   at_now r stands at = ap (λ y. r.base + at == y) stands.now ∙ moved r.base at o
 
   -- ---- phase 2
 
   -- the value that phase 2 gives an actuator is that of its first update at offset o whose guard holds
-  pub update_value-is : (r : ModuleState) → Stands r → (look : Look) (a : ℕ) →
+  pub update_value-is : (r : ModuleState) → AtOffset r → (look : Look) (a : ℕ) →
       update_value r x look a
       ≡ option_map (λ u. narrowed (unwrap_or (option_map (λ p. p.kind) (slice_get m.actuators a)) Long)
       (value_of u.value look))
@@ -58,7 +59,7 @@ module _ (m : Module) (k o x : ℕ) (mode : Mode) (is : slice_get m.modes k ≡ 
       ∙ find-filter (λ u. u.actuator == a && u.at.0 == o) (λ u. holds u.guard look) mode.updates in
       ap₂ (λ (t : Module) q. option_map (λ u.
       narrowed (unwrap_or (option_map (λ p. p.kind) (slice_get t.actuators a)) Long) (value_of u.value look)) q)
-      stands.text taken
+      stands.definition taken
     where
       regroup : (a b c : Bool) → (a && (b && c)) ≡ ((a && b) && c)
       regroup true b c = refl
@@ -67,7 +68,7 @@ module _ (m : Module) (k o x : ℕ) (mode : Mode) (is : slice_get m.modes k ≡ 
   -- ---- phase 3
 
   -- the target of phase 3 is that of the first switch at offset o whose guard holds
-  pub switch_target-is : (r : ModuleState) → Stands r → (look : Look) →
+  pub switch_target-is : (r : ModuleState) → AtOffset r → (look : Look) →
       switch_target r x look
       ≡ option_map (λ s. s.target.0) (find (λ s. holds s.guard look) (filter (λ s. s.at.0 == o) mode.switches))
   switch_target-is r stands look =
@@ -79,7 +80,7 @@ module _ (m : Module) (k o x : ℕ) (mode : Mode) (is : slice_get m.modes k ≡ 
       ∙ find-filter (λ s. s.at.0 == o) (λ s. holds s.guard look) mode.switches)
 
   -- the cycle is over where o is the period
-  pub is_over-is : (r : ModuleState) → Stands r → is_over r x ≡ (o == mode.period.0)
+  pub is_over-is : (r : ModuleState) → AtOffset r → is_over r x ≡ (o == mode.period.0)
   is_over-is r stands =
       ap (λ p. unwrap_or (option_map (λ (d : Mode). r.base + d.period.0 == x) p) false) (present-is r stands)
       ∙ at_now r stands mode.period.0 ∙ turned mode.period.0 o
@@ -129,15 +130,23 @@ module _ (m : Module) (k o x : ℕ) (mode : Mode) (is : slice_get m.modes k ≡ 
         by_test true e false f = absurd (place job.invocation j.invocation j.at f j.task e)
         by_test false e true f = absurd (other (any-passing (λ i. i.task.0 == t && i.e.0 == o) mode.invocations f) e)
 
+    -- a job whose invocation ends at offset o has nothing left
+    pub none_left : WellLets mode covers worst → (t : ℕ) (job : Job) (left : ℕ) (j : IsJob k mode t o job) →
+        j.invocation.e.0 ≡ o → 0 < left → left + covers job.invocation o ≤ worst t → ⊥
+    none_left well t job left j end some within =
+        let full : worst t ≤ covers job.invocation o = subst₂ (λ a b. worst a ≤ covers job.invocation b) j.task end
+        (well.full job.invocation j.invocation j.at) in
+        omega (arith, full, some, within)
+
     -- ---- phase 1
 
     -- the logical job of a task has ended where its invocation ends at offset o
-    pub has_ended-is : (r : ModuleState) → Stands r → (t d : ℕ) (task : Task) (outs : List ℤ) (job : Job)
+    pub has_ended-is : (r : ModuleState) → AtOffset r → (t d : ℕ) (task : Task) (outs : List ℤ) (job : Job)
         (j : IsJob k mode t d job) →
-        has_ended r x (record { text = task; outputs = outs; active = Some job }) ≡ (j.invocation.e.0 == o)
+        has_ended r x (record { definition = task; outputs = outs; active = Some job }) ≡ (j.invocation.e.0 == o)
     has_ended-is r stands t d task outs job j =
         let a : (job.mode == r.mode) ≡ true = eq-eqb job.mode r.mode (j.mode' ∙ sym stands.mode') in
-        let b : slice_get r.text.modes r.mode ≡ Some mode = present-is r stands in
+        let b : slice_get r.definition.modes r.mode ≡ Some mode = present-is r stands in
         rw (a, b, j.at) (at_now r stands j.invocation.e.0)
 
     -- a job that does not end at offset o is open at the next one
@@ -161,17 +170,17 @@ module _ (m : Module) (k o x : ℕ) (mode : Mode) (is : slice_get m.modes k ≡ 
 
     -- a task without a job stays so, whether an invocation ends here or not
     idle_pair : (r : ModuleState) (t : ℕ) (task : Task) (outs wouts : List ℤ) (count : ℕ) → wouts ≡ outs → (b : Bool) →
-        TaskPair k mode covers worst t (suc o) o (record { text = task; outputs = outs; active = None })
+        TaskPair k mode covers worst t (suc o) o (record { definition = task; outputs = outs; active = None })
         (if b then record { outputs = wouts; slot = Slot.Idle; released = count }
         else record { outputs = wouts; slot = Slot.Idle; released = count })
     idle_pair r t task outs wouts count same true = record { outputs = same; slot = tt }
     idle_pair r t task outs wouts count same false = record { outputs = same; slot = tt }
 
     -- a pair at offset o is a pair after phase 1, a job that ends at o being gone on both sides
-    pub ends_pair : (r : ModuleState) → Stands r → WellLets mode covers worst →
+    pub ends_pair : (r : ModuleState) → AtOffset r → WellLets mode covers worst →
         (t : ℕ) (task : Task) (outs wouts : List ℤ) (active : Option Job) (slot : Slot) (count : ℕ) → wouts ≡ outs →
         SlotPair k mode covers worst t o o task outs active slot →
-        Ended r t (record { text = task; outputs = outs; active = active })
+        Ended r t (record { definition = task; outputs = outs; active = active })
         (record { outputs = wouts; slot = slot; released = count })
     ends_pair r stands well t task outs wouts None Slot.Idle count same slot =
         idle_pair r t task outs wouts count same (ends_here t)
@@ -182,18 +191,14 @@ module _ (m : Module) (k o x : ℕ) (mode : Mode) (is : slice_get m.modes k ≡ 
         by_test (slot.0.invocation.e.0 == o) refl
       where
         u : TaskState
-        u = record { text = task; outputs = outs; active = Some job }
+        u = record { definition = task; outputs = outs; active = Some job }
 
         w : TaskNow
         w = record { outputs = wouts; slot = Slot.Ready md i left cells; released = count }
 
         by_test : (b : Bool) → (slot.0.invocation.e.0 == o) ≡ b → Ended r t u w
         by_test true e =
-            let end : slot.0.invocation.e.0 ≡ o = eqb-true slot.0.invocation.e.0 o e in
-            let full : worst t ≤ covers job.invocation o =
-            subst₂ (λ a b. worst a ≤ covers job.invocation b) slot.0.task end
-            (well.full job.invocation slot.0.invocation slot.0.at) in
-            absurd (omega (arith, full, slot.4, slot.5))
+            absurd (none_left well t job left slot.0 (eqb-true slot.0.invocation.e.0 o e) slot.4 slot.5)
         by_test false e =
             let a : has_ended r x u ≡ false = has_ended-is r stands t o task outs job slot.0 ∙ e in
             let b : ends_here t ≡ false = ends_is well t job slot.0 ∙ e in
@@ -202,7 +207,7 @@ module _ (m : Module) (k o x : ℕ) (mode : Mode) (is : slice_get m.modes k ≡ 
         by_test (slot.0.invocation.e.0 == o) refl
       where
         u : TaskState
-        u = record { text = task; outputs = outs; active = Some job }
+        u = record { definition = task; outputs = outs; active = Some job }
 
         w : TaskNow
         w = record { outputs = wouts; slot = Slot.Done md i values; released = count }
@@ -218,7 +223,7 @@ module _ (m : Module) (k o x : ℕ) (mode : Mode) (is : slice_get m.modes k ≡ 
             rw (a, b) (record { outputs = same; slot = (later t job slot.0 e, slot.1, slot.2, slot.3) })
 
     -- the pairs of all tasks at offset o are pairs after phase 1
-    pub ends_pairs : (r : ModuleState) → Stands r → WellLets mode covers worst →
+    pub ends_pairs : (r : ModuleState) → AtOffset r → WellLets mode covers worst →
         (n : ℕ) (us : List TaskState) (ws : List TaskNow) →
         TaskPairs k mode covers worst o o n us ws →
         TaskPairs k mode covers worst (suc o) o n (map (task_after r x) us)
@@ -227,6 +232,6 @@ module _ (m : Module) (k o x : ℕ) (mode : Mode) (is : slice_get m.modes k ≡ 
     ends_pairs r stands well n [] (w ∷ ws) ps = absurd ps
     ends_pairs r stands well n (u ∷ us) [] ps = absurd ps
     ends_pairs r stands well n (u ∷ us) (w ∷ ws) ps = (
-      ends_pair r stands well n u.text u.outputs w.outputs u.active w.slot w.released ps.0.outputs ps.0.slot,
+      ends_pair r stands well n u.definition u.outputs w.outputs u.active w.slot w.released ps.0.outputs ps.0.slot,
       ends_pairs r stands well (suc n) us ws ps.1,
     )

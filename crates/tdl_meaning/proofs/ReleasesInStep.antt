@@ -14,11 +14,13 @@ use Rattle.tdl_mode.specs.States.{Job, TaskState, ModuleState, invocation_of, ki
 use Rattle.tdl_mode.specs.Phases.{releases, released, narrowed_args}
 use Rattle.tdl_image.specs.declared.hosted.Hosted.{Hosted}
 use Rattle.tdl_image.specs.declared.hosted.TaskTable.{TaskTable}
-use Rattle.tdl_verify.specs.States.{Slot, TaskNow, Part, Times, Sensed}
+use Rattle.tdl_base.specs.Sensed.{Sensed}
+use Rattle.tdl_verify.specs.States.{Slot, TaskNow, Part, Times}
 use Rattle.tdl_gen.specs.Tables.{task_table}
 use Rattle.tdl_gen.proofs.StartBlocks.{HasStart, IsFree, AllFree, all_started, started}
-use Rattle.tdl_meaning.proofs.HostFacts.{IsJob, SlotPair, Pairs, WellLets, Older, AtRelease, pair_at, pairs_kept, pairs_changed}
-use Rattle.tdl_meaning.proofs.PhasesAtOffset.{Stands, at_now}
+use Rattle.tdl_meaning.proofs.HostFacts.{WellLets, Older, AtRelease, pair_at, pairs_kept, pairs_changed}
+use Rattle.tdl_meaning.proofs.PhasesAtOffset.{AtOffset, at_now}
+use Rattle.tdl_meaning.specs.HostInStep.{IsJob, SlotPair, Pairs}
 
 module _ (x node : ℕ) (sensed : Sensed) (times : Times) (h : Hosted) (b : ℕ) (front back : List Part) (m : Module)
     (k o : ℕ) (look : Look) (mode : Mode) (is : slice_get m.modes k ≡ Some mode)
@@ -50,18 +52,18 @@ module _ (x node : ℕ) (sensed : Sensed) (times : Times) (h : Hosted) (b : ℕ)
       (u : TaskState) (w : TaskNow) → Pair n i.task.0 u w →
       Pair (suc n) i.task.0 (released k n i look u) (begun n i w)
   new_pair ready n i at s u w p =
-      let table : tables i.task.0 ≡ task_table u.text = ready.tables' i.task.0 u.text p.text in
-      let locals : length (tables i.task.0).locals ≡ length u.text.locals =
-      ap (λ (t : TaskTable). length t.locals) table ∙ length-map u.text.locals (λ (d : PortDef). d.kind) in
+      let table : tables i.task.0 ≡ task_table u.definition = ready.tables' i.task.0 u.definition p.definition in
+      let locals : length (tables i.task.0).locals ≡ length u.definition.locals =
+      ap (λ (t : TaskTable). length t.locals) table ∙ length-map u.definition.locals (λ (d : PortDef). d.kind) in
       let inputs : narrowed_args (tables i.task.0).inputs i.args look
-      ≡ narrowed_args (kinds_of u.text.inputs) i.args look =
+      ≡ narrowed_args (kinds_of u.definition.inputs) i.args look =
       ap (λ (t : TaskTable). narrowed_args t.inputs i.args look) table in
       let cells : narrowed_args (tables i.task.0).inputs i.args look
       ++ w.outputs ++ replicate (length (tables i.task.0).locals) (pos 0)
-      ≡ narrowed_args (kinds_of u.text.inputs) i.args look
-      ++ u.outputs ++ replicate (length u.text.locals) (pos 0) =
+      ≡ narrowed_args (kinds_of u.definition.inputs) i.args look
+      ++ u.outputs ++ replicate (length u.definition.locals) (pos 0) =
       λ q. inputs q ++ p.pair.outputs q ++ replicate (locals q) (pos 0) in
-      let t = ready.timely i.task.0 (suc w.released) u.text p.text in
+      let t = ready.timely i.task.0 (suc w.released) u.definition p.definition in
       let lasts = well.lasts n i at in
       let early : covers n o ≡ 0 = ap (covers n) (sym s) ∙ ready.early n i at in
       record {
@@ -84,7 +86,7 @@ module _ (x node : ℕ) (sensed : Sensed) (times : Times) (h : Hosted) (b : ℕ)
           );
         };
         older = λ j at' le. absurd (omega (arith, le));
-        text = p.text;
+        definition = p.definition;
       }
 
   -- no job of the task of invocation n, which starts here, is active
@@ -119,7 +121,7 @@ module _ (x node : ℕ) (sensed : Sensed) (times : Times) (h : Hosted) (b : ℕ)
 
   -- a task ready for release n is ready for the next
   next_pair : (n t : ℕ) (u : TaskState) (w : TaskNow) → Pair n t u w → Pair (suc n) t u w
-  next_pair n t u w p = record { pair = p.pair; older = older-next n t u.active p.older; text = p.text }
+  next_pair n t u w p = record { pair = p.pair; older = older-next n t u.active p.older; definition = p.definition }
 
   -- what the releases of `todo` come to: the slots are free all along, and the tasks are ready for release `last`
   pub record Released (n : ℕ) (todo : List Invocation) (us : List TaskState) (ws : List TaskNow)
@@ -135,7 +137,7 @@ module _ (x node : ℕ) (sensed : Sensed) (times : Times) (h : Hosted) (b : ℕ)
       let p = pair_at (Pair n) 0 i.task.0 us ws lt ps in
       let q : 0 + i.task.0 ≡ i.task.0 = omega arith in
       let pair : Pair n i.task.0 p.u p.w = subst (λ t. Pair n t p.u p.w) q p.pair in
-      let idle = free_slot n i at s p.u.text p.u.outputs p.u.active p.w.slot pair.older pair.pair.slot in
+      let idle = free_slot n i at s p.u.definition p.u.outputs p.u.active p.w.slot pair.older pair.pair.slot in
       record {
         outputs = p.w.outputs;
         count = p.w.released;
@@ -178,7 +180,7 @@ module _ (x node : ℕ) (sensed : Sensed) (times : Times) (h : Hosted) (b : ℕ)
   length-if false t f us = refl
 
   -- the releases of an instant, in the logical state and on the node
-  pub releases_pairs : (r : ModuleState) → Stands m k o x mode is r → Ready →
+  pub releases_pairs : (r : ModuleState) → AtOffset m k o x mode is r → Ready →
       (n : ℕ) (todo : List Invocation) (us : List TaskState) (ws : List TaskNow) →
       ((q : ℕ) (i : Invocation) → slice_get todo q ≡ Some i →
       (invocation_of mode.invocations (n + q) ≡ Some i) × (i.task.0 < length us)) →

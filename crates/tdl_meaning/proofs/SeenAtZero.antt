@@ -1,11 +1,12 @@
--- At instant 0 each module sees what the program's modules put out; so behind it the machine's state is the program's.
+-- At instant 0 each module sees what the program's modules put out; so after it the machine's state is the program's.
 use Rattle.std.proofs.Common.{◌≡◌, ℕ, ◌+◌, ℤ, pos, List, [], map, true, false, ◌==◌, Some, refl, ap, sym, ◌∙◌, inl, inr}
 use Rattle.std.specs.Prelude.{◌⊎◌, slice_get, slice_index_or, unwrap_or, option_map}
 use Rattle.std.proofs.lemmas.Bool.{eqb-true, eq-eqb}
 use Rattle.std.proofs.lemmas.Option.{slice_get-map, same_Some}
 use Rattle.tdl_base.specs.declared.numbers.PortKey.{PortKey}
 use Rattle.tdl_mode.specs.declared.program.Module.{Module}
-use Rattle.tdl_mode.specs.States.{TaskState, ModuleState, Course, outputs_in, output_at}
+use Rattle.tdl_base.specs.Sensed.{Course}
+use Rattle.tdl_mode.specs.States.{TaskState, ModuleState, outputs_in, output_at}
 use Rattle.tdl_mode.specs.Instants.{entered, begun_task, state_at}
 use Rattle.tdl_mode.specs.Imports.{is_among}
 use Rattle.tdl_image.specs.declared.stub.Stub.{Stub}
@@ -15,18 +16,17 @@ use Rattle.tdl_gen.specs.Realises.{IsWithinWorst}
 use Rattle.tdl_mode.specs.WellFormed.{ReadsPort}
 use Rattle.tdl_meaning.proofs.HostTurns.{outputs-map}
 use Rattle.tdl_meaning.proofs.BootTurn.{outputs-first}
-use Rattle.tdl_meaning.proofs.PartMoves.{View, seen_in}
+use Rattle.tdl_meaning.specs.OneNode.{View, seen_in, first_view, first_sees}
 use Rattle.tdl_verify.proofs.Replaced.{is_numbered}
 use Rattle.tdl_meaning.proofs.ModuleStep.{public-numbered}
 use Rattle.tdl_meaning.proofs.MappedLists.{map-at, map-to}
 use Rattle.tdl_meaning.proofs.AllParts.{node-at}
-use Rattle.tdl_meaning.proofs.NodeShapes.{NodeShape}
 use Rattle.tdl_meaning.proofs.SeenAt.{seen_at-is}
 use Rattle.tdl_meaning.proofs.ItemPlaces.{found_from}
 use Rattle.tdl_meaning.proofs.ShapesBeforeZero.{first_shapes}
 use Rattle.tdl_meaning.proofs.PartsBeforeZero.{PartAt, NodeAt, nodes_at}
-use Rattle.tdl_meaning.proofs.HostedOnce.{first_nodes, hosted_in}
-use Rattle.tdl_meaning.proofs.NodesBoot.{look_first, sees_first}
+use Rattle.tdl_meaning.proofs.HostedOnce.{hosted_in}
+use Rattle.tdl_meaning.specs.SystemStands.{first_nodes}
 use Rattle.tdl_meaning.proofs.InstantZero.{first_seen, first_logic}
 use Rattle.tdl_meaning.proofs.StubFirstOutputs.{first_in_step}
 use Rattle.tdl_meaning.proofs.StateAtZero.{agree_first}
@@ -34,6 +34,7 @@ use Rattle.tdl_meaning.proofs.NodeParts.{NodeWith, node_with, has_import}
 use Rattle.tdl_meaning.specs.Accepted.{Accepted}
 use Rattle.tdl_meaning.proofs.Every.{all-at}
 use Rattle.tdl_base.proofs.Among.{Found}
+use Rattle.tdl_meaning.specs.NodeShape.{NodeShape}
 
 -- what is seen at a key is what any view of its module has, where all views of that module have the same
 seen_found : (vs : List View) (key : PortKey) (os : List ℤ) →
@@ -58,15 +59,15 @@ module _ (given : Accepted) (course : Course) (times : Times) (within : IsWithin
       slice_get (map begun_task e.tasks) t ≡ Some u → is_numbered t (stub_tasks e) ≡ true →
       (q : Part) → PartAt given j q → part_number q ≡ i → part_outputs q t ≡ u.outputs
   first_outputs j i t e there u at has (Part.Host h s) a number =
-      let same : a.text ≡ e =
-      same_Some a.text e (sym a.there ∙ ap (slice_get given.program.modules) number ∙ there) in
+      let same : a.definition ≡ e =
+      same_Some a.definition e (sym a.there ∙ ap (slice_get given.program.modules) number ∙ there) in
       ap (λ (r : Part). part_outputs r t) a.is
-      ∙ outputs-map (map begun_task a.text.tasks) (map task_first (map task_table a.text.tasks)) t
-      (outputs-first a.text.tasks)
+      ∙ outputs-map (map begun_task a.definition.tasks) (map task_first (map task_table a.definition.tasks)) t
+      (outputs-first a.definition.tasks)
       ∙ ap (λ m. outs_first m t) same ∙ ap (λ o. unwrap_or (option_map (λ (u : TaskState). u.outputs) o) []) at
   first_outputs j i t e there u at has (Part.Outside q s) a number =
-      let same : e ≡ a.text =
-      same_Some e a.text (sym there ∙ ap (slice_get given.program.modules) (sym number) ∙ a.there) in
+      let same : e ≡ a.definition =
+      same_Some e a.definition (sym there ∙ ap (slice_get given.program.modules) (sym number) ∙ a.there) in
       let tasks : q.tasks ≡ stub_tasks e = ap (λ (s : Stub). s.tasks) a.tables ∙ ap stub_tasks (sym same) in
       ap (λ (r : Part). part_outputs r t) a.is
       ∙ first_in_step e q (map begun_task e.tasks) tasks refl t u (ap (is_numbered t) tasks ∙ has) at
@@ -111,9 +112,9 @@ module _ (given : Accepted) (course : Course) (times : Times) (within : IsWithin
           let f = has_import given j w.node.parts shape.order kk m there w.hosted key.module.0 among in
           let ats : NodeAt given j w.node =
           node-at (NodeAt given) 0 nodes (nodes_at given 0 given.placement.nodes) w.index w.node w.at in
-          let look : Part → View = look_first given (course 0) times within j in
+          let look : Part → View = first_view in
           ap (λ (g : PortKey → ℤ). g key)
-          (seen_at-is given (sees_first given (course 0) times within) 0 w.index nodes w.node w.at kk w.hosted)
+          (seen_at-is given first_sees 0 w.index nodes w.node w.at kk w.hosted)
           ∙ seen_found (map look w.node.parts) key u.outputs
           (λ n v at number.
           let q = map-at look w.node.parts n v at in
@@ -130,7 +131,7 @@ module _ (given : Accepted) (course : Course) (times : Times) (within : IsWithin
       by_allowed (inl own) = let t = eq-eqb key.module.0 kk own in absurd (cc (t, other))
       by_allowed (inr b) = by_import b.0 b.1
 
-  -- the machine's states behind instant 0 are the program's
+  -- the machine's states after instant 0 are the program's
   pub agree_zero : (kk : ℕ) (m : Module) → slice_get given.program.modules kk ≡ Some m →
       slice_get (state_at given.program course 0) kk ≡ Some (first_logic given course times within kk)
   agree_zero kk m there = agree_first given course times within kk m there (seen_zero kk m there)

@@ -1,7 +1,7 @@
 -- The shapes of the compiler's nodes before instant 0: their parts ascend in number, and the declared count is enough
 -- for them.
 use Rattle.std.proofs.Common.{◌≡◌, ℕ, zero, suc, ◌+◌, ◌≤◌, List, [], ◌∷◌, ◌++◌, map, Bool, true, false, not, ◌&&◌, Some, None, refl, ap, sym, ◌∙◌, subst, arith}
-use Rattle.std.specs.Prelude.{slice_get, option_map, unwrap_or, if◌then◌else◌, sum}
+use Rattle.std.specs.Prelude.{sum, slice_get, option_map, unwrap_or, if◌then◌else◌}
 use Rattle.std.proofs.lemmas.List.{length-map}
 use Rattle.std.proofs.lemmas.Option.{slice_get-map}
 use Rattle.tdl_base.specs.Lists.{joined, numbered}
@@ -10,16 +10,17 @@ use Rattle.tdl_deploy.specs.declared.placement.PlacedNode.{PlacedNode}
 use Rattle.tdl_deploy.specs.Placed.{hosts, imports}
 use Rattle.tdl_image.specs.declared.stub.Receive.{Receive}
 use Rattle.tdl_image.specs.declared.stub.Stub.{Stub}
-use Rattle.tdl_verify.specs.States.{Part, host_first, stub_first, stub_initials, node_first}
+use Rattle.tdl_verify.specs.States.{Part, host_first, stub_first, stub_initials, node_first, initial_values}
 use Rattle.tdl_gen.specs.Counts.{module_count, stub_count, declared_of}
 use Rattle.tdl_gen.specs.Tables.{hosted_of, stub_of, receives, take_block}
-use Rattle.tdl_gen.specs.Realises.{image_of}
-use Rattle.tdl_gen.proofs.PartOrder.{part_at, parts-are}
-use Rattle.tdl_meaning.proofs.CoveredWindows.{fold-from}
-use Rattle.tdl_meaning.proofs.OneLive.{Ascends}
-use Rattle.tdl_meaning.proofs.NodeShapes.{first_of, Shape, shares, NodeShape, Shapes}
+use Rattle.tdl_gen.specs.Realises.{image_of, part_at}
+use Rattle.tdl_gen.proofs.PartOrder.{parts-are}
 use Rattle.tdl_meaning.specs.Accepted.{Accepted}
-use Rattle.tdl_meaning.proofs.Every.{Every}
+use Rattle.std.specs.List.{fold}
+use Rattle.tdl_meaning.specs.NodeShape.{Ascends, first_part, Shape, shares, NodeShape, Shapes}
+use Rattle.tdl_meaning.specs.AllItems.{Every}
+use Rattle.tdl_image.specs.declared.stub.StubTask.{StubTask}
+use Rattle.tdl_gen.proofs.PartCounts.{fold-from}
 
 -- entries with their places for blocks, the first having place k
 abbrev placed_from : ℕ → List Receive → List Receive
@@ -68,7 +69,7 @@ module _ (given : Accepted) (node : ℕ) where
     each : Every (Shape given node) (parts_from n ms)
     up : Ascends n (parts_from n ms)
     count : shares given node (parts_from n ms) each ≡ sum (hosted_counts n ms) + sum (map stub_count (stubs_from n ms))
-    firsts : map first_of (parts_from n ms) ≡ parts_from n ms
+    firsts : map first_part (parts_from n ms) ≡ parts_from n ms
 
   -- what ascends from k on ascends from any number below
   lower : (n k : ℕ) (qs : List Part) → n ≤ k → Ascends k qs → Ascends n qs
@@ -87,7 +88,7 @@ module _ (given : Accepted) (node : ℕ) where
     count : shares given node (part_if n m hosted imported ++ parts_from (suc n) ms) each
         ≡ sum ((if hosted then module_count m ∷ [] else []) ++ hosted_counts (suc n) ms)
         + sum (map stub_count ((if not hosted && imported then stub_at n m ∷ [] else []) ++ stubs_from (suc n) ms))
-    firsts : map first_of (part_if n m hosted imported ++ parts_from (suc n) ms)
+    firsts : map first_part (part_if n m hosted imported ++ parts_from (suc n) ms)
         ≡ part_if n m hosted imported ++ parts_from (suc n) ms
 
   -- one more module keeps it
@@ -97,7 +98,7 @@ module _ (given : Accepted) (node : ℕ) where
       let sums = fold-from (0 + module_count m) (hosted_counts (suc n) ms) in
       let count = rest.count in
       record {
-        each = (record { text = m; there = at; tables = refl; hosted = e }, rest.each);
+        each = (record { definition = m; there = at; tables = refl; hosted = e }, rest.each);
         up = (omega arith, rest.up);
         count = omega (arith, sums, count);
         firsts = ap (λ l. host_at n m ∷ l) rest.firsts;
@@ -108,8 +109,9 @@ module _ (given : Accepted) (node : ℕ) where
       let count = rest.count in
       let size = length-map (receives given.program given.placement given.schedule n m)
       (λ (a : Receive). record { copy = stub_initials q a.task; due = None }) in
+      let outputs = length-map q.tasks (λ (k : StubTask). initial_values k.outputs) in
       record {
-        each = (record { own = own-blocks _; size = sym size }, rest.each);
+        each = (record { own = own-blocks _; size = sym size; outputs = sym outputs }, rest.each);
         up = (omega arith, rest.up);
         count = omega (arith, sums, count);
         firsts = ap (λ l. stub_first q ∷ l) rest.firsts;

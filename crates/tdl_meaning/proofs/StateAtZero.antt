@@ -1,10 +1,11 @@
--- Behind instant 0 the machine's state of a module is the program's, where it sees what the program's modules put out.
+-- After instant 0 the machine's state of a module is the program's, where it sees what the program's modules put out.
 use Rattle.std.proofs.Common.{◌≡◌, ℕ, ◌+◌, ℤ, map, Bool, true, false, ◌==◌, Some, refl, ap, sym, ◌∙◌, arith}
 use Rattle.std.specs.Prelude.{slice_get, option_map, if◌then◌else◌}
 use Rattle.std.proofs.lemmas.Option.{slice_get-map}
 use Rattle.tdl_base.specs.declared.numbers.PortKey.{PortKey}
 use Rattle.tdl_mode.specs.declared.program.Module.{Module}
-use Rattle.tdl_mode.specs.States.{State, Course, look_of, outputs_in, output_at}
+use Rattle.tdl_base.specs.Sensed.{Course}
+use Rattle.tdl_mode.specs.States.{State, look_of, outputs_in, output_at}
 use Rattle.tdl_mode.specs.Phases.{phase_four}
 use Rattle.tdl_mode.specs.Instants.{entered, begun, state_at, look_in}
 use Rattle.tdl_verify.specs.States.{Times}

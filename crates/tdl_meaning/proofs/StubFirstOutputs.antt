@@ -13,9 +13,9 @@ use Rattle.tdl_image.specs.declared.stub.StubTask.{StubTask}
 use Rattle.tdl_verify.specs.States as st
 use Rattle.tdl_gen.specs.Tables.{initials, stub_tasks}
 use Rattle.tdl_verify.specs.States.{stub_outputs}
-use Rattle.tdl_meaning.proofs.BootTurn.{initials-same}
+use Rattle.tdl_meaning.proofs.BootTurn.{initial_values-same}
 use Rattle.tdl_verify.proofs.Replaced.{is_numbered}
-use Rattle.tdl_meaning.proofs.StubsInStep.{InStep}
+use Rattle.tdl_meaning.specs.WithoutLosses.{InStep}
 
 -- the stub task of task t, where it is public
 abbrev table_if : ℕ → Task → Bool → List StubTask
@@ -28,7 +28,7 @@ tasks_from n ts = joined (numbered n (λ t task. table_if t task task.public) ts
 
 -- the first outputs of stub tasks
 abbrev firsts : List StubTask → List (List ℤ)
-firsts ks = map (λ (k : StubTask). st.initials k.outputs) ks
+firsts ks = map (λ (k : StubTask). st.initial_values k.outputs) ks
 
 -- numbers below n are not among those from n on
 not_numbered : (m n : ℕ) (ts : List Task) → m < n → is_numbered m (tasks_from n ts) ≡ false
@@ -54,8 +54,8 @@ outs_from n (x ∷ xs) zero task at has = by_test x.public has
         stub_outputs (n + 0) (table_if n x b ++ more) (firsts (table_if n x b ++ more)) ≡ initials_of task.outputs
     by_test true h =
         let z : n ≡ n + 0 = omega arith in
-        ap (λ b. if b then st.initials (initials x.outputs) else stub_outputs (n + 0) more (firsts more))
-        (eq-eqb n (n + 0) z) ∙ initials-same x.outputs
+        ap (λ b. if b then st.initial_values (initials x.outputs) else stub_outputs (n + 0) more (firsts more))
+        (eq-eqb n (n + 0) z) ∙ initial_values-same x.outputs
         ∙ ap (λ (o : Option Task). initials_of (unwrap_or o x).outputs) at
     by_test false h = let f = not_numbered (n + 0) (suc n) xs (omega arith) in absurd (cc (h, f))
 outs_from n (x ∷ xs) (suc t) task at has =
@@ -72,7 +72,7 @@ outs_from n (x ∷ xs) (suc t) task at has =
         stub_outputs (n + suc t) (table_if n x b ++ more) (firsts (table_if n x b ++ more)) ≡ initials_of task.outputs
     by_test rest true h =
         let f = ne_eqb n (n + suc t) (λ e. absurd (omega (arith, e))) in
-        ap (λ b. if b then st.initials (initials x.outputs) else stub_outputs (n + suc t) more (firsts more)) f
+        ap (λ b. if b then st.initial_values (initials x.outputs) else stub_outputs (n + suc t) more (firsts more)) f
         ∙ rest (ap (λ b. b || is_numbered (n + suc t) more) (sym f) ∙ h)
     by_test rest false h = rest h
 

@@ -9,7 +9,8 @@ use Rattle.tdl_mode.specs.declared.program.Module.{Module}
 use Rattle.tdl_mode.specs.declared.program.Mode.{Mode}
 use Rattle.tdl_mode.specs.declared.program.Task.{Task}
 use Rattle.tdl_mode.specs.declared.program.Invocation.{Invocation}
-use Rattle.tdl_mode.specs.States.{Job, TaskState, ModuleState, Sensed, invocation_of}
+use Rattle.tdl_base.specs.Sensed.{Sensed}
+use Rattle.tdl_mode.specs.States.{Job, TaskState, ModuleState, invocation_of}
 use Rattle.tdl_mode.specs.Phases.{has_ended, task_after, phase_one}
 use Rattle.tdl_trace.specs.Shown.{Shown}
 use Rattle.tdl_deploy.specs.declared.placement.Placement.{Placement}
@@ -20,14 +21,16 @@ use Rattle.tdl_verify.specs.States.{EntryNow}
 use Rattle.tdl_verify.specs.Turns.{is_at, output_rows}
 use Rattle.tdl_deploy.specs.Rows.{task_port_rows}
 use Rattle.tdl_gen.proofs.StubMoves.{taken_rows}
-use Rattle.tdl_meaning.proofs.ActiveJobs.{WellModes, Standing, ActiveJob, end_of, is_ended}
-use Rattle.tdl_meaning.proofs.EntryFacts.{EntryFact, Got, takes_commit, at_is}
-use Rattle.tdl_meaning.proofs.EntryLists.{AllEntries, entry_at}
+use Rattle.tdl_meaning.proofs.ActiveJobs.{WellModes, Standing, is_ended}
+use Rattle.tdl_meaning.proofs.EntryFacts.{takes_commit, at_is}
+use Rattle.tdl_meaning.proofs.EntryLists.{entry_at}
 use Rattle.tdl_base.proofs.Tests.{eq_self}
 use Rattle.std.proofs.Math.Bool.{and-true}
 use Rattle.tdl_meaning.proofs.TakenRows.{halves, rows-append, rows-empty, rows-none, rows-one, IsThatDue, Distinct, entries_weak}
 use Rattle.tdl_meaning.proofs.StubsInStep.{ended_now, has_job}
 use Rattle.tdl_meaning.proofs.HostJobs.{JobsActive}
+use Rattle.tdl_meaning.specs.Entries.{ActiveJob, job_end, EntryFact, Got}
+use Rattle.tdl_meaning.specs.AllItems.{AllEntries}
 
 -- the entries of task n: one for each of its invocations, where it is public, and else none
 pub record Segment (m : Module) (n : ℕ) (task : Task) (es : List Receive) : Type 0 where
@@ -38,7 +41,7 @@ pub record Segment (m : Module) (n : ℕ) (task : Task) (es : List Receive) : Ty
       invocation_of mode.invocations q ≡ Some i → i.task.0 ≡ n →
       (j : ℕ) × (e : Receive) × (slice_get es j ≡ Some e) × (e.mode ≡ k) × (e.invocation ≡ q)
 
--- the entries of task n, and behind them the rest
+-- the entries of task n, and after them the rest
 pub record Cut (m : Module) (n : ℕ) (task : Task) (rest : List Receive → Type 0) (es : List Receive) : Type 0 where
   pub front : List Receive
   pub back : List Receive
@@ -59,7 +62,7 @@ module _ (p : Program) (pl : Placement) (node : ℕ) (m : Module) (well : WellMo
   abbrev kk : ℕ
   kk = q.number.0
 
-  -- what is known of an entry behind delivery
+  -- what is known of an entry after delivery
   abbrev Both : Receive → EntryNow → Type 0
   Both e now = EntryFact m x r e now × Got gone m (suc x) x r e now
 
@@ -100,36 +103,36 @@ module _ (p : Program) (pl : Placement) (node : ℕ) (m : Module) (well : WellMo
       }
 
   -- the rows of the entries of a task are its port rows
-  segment_rows : (n : ℕ) (task : Task) (u : TaskState) → slice_get r.tasks n ≡ Some u → u.text ≡ task →
+  segment_rows : (n : ℕ) (task : Task) (u : TaskState) → slice_get r.tasks n ≡ Some u → u.definition ≡ task →
       (es : List Receive) (nows : List EntryNow) → Segment m n task es → AllEntries Both es nows →
       taken_rows x node q es nows ≡ shown n u
-  segment_rows n task u here text es nows seg ps = by_ended (has_ended r x u) refl
+  segment_rows n task u here definition es nows seg ps = by_ended (has_ended r x u) refl
     where
       rows : Bool → Bool → List Shown
       rows ended seen = if ended then (if seen then output_rows x node kk n (task_after r x u).outputs else []) else []
 
-      seen-is : sees p pl node kk u.text ≡ task.public
-      seen-is = ap (sees p pl node kk) text ∙ sees-is task
+      seen-is : sees p pl node kk u.definition ≡ task.public
+      seen-is = ap (sees p pl node kk) definition ∙ sees-is task
 
       Ending : ℕ → ℕ → Type 0
-      Ending s n = (a : ActiveJob m x r s) × (end_of m x r s a ≡ x) × (n ≡ a.job.invocation)
+      Ending s n = (a : ActiveJob m x r s) × (job_end m x r s a ≡ x) × (n ≡ a.job.invocation)
 
       due_now : (d : Receive) → Ending d.task d.invocation → d.mode ≡ r.mode → (now : EntryNow) →
           Got gone m (suc x) x r d now → is_at x now.due ≡ true
       due_now d (a, end, named) mode now got = by_got (got a mode named (omega (arith, end)))
         where
-          by_got : (now.due ≡ Some (end_of m x r d.task a)) ⊎ gone (end_of m x r d.task a) → is_at x now.due ≡ true
+          by_got : (now.due ≡ Some (job_end m x r d.task a)) ⊎ gone (job_end m x r d.task a) → is_at x now.due ≡ true
           by_got (inl due) = ap (is_at x) (due ∙ ap Some end) ∙ eq_self x
           by_got (inr g) = absurd (safe (subst gone end g))
 
       by_public : has_ended r x u ≡ true → (b : Bool) → task.public ≡ b →
-          taken_rows x node q es nows ≡ rows (has_ended r x u) (sees p pl node kk u.text)
+          taken_rows x node q es nows ≡ rows (has_ended r x u) (sees p pl node kk u.definition)
       by_public f false g = rows-empty x node q es nows (seg.hidden g) ∙ sym (ap₂ rows f (seen-is ∙ g))
       by_public f true g =
           let j = has_job m well x r st kk sensed seen q gone u f in
           let l = live n u j.0 here j.1 in
           let a = l.active in
-          let end : end_of m x r n a ≡ x =
+          let end : job_end m x r n a ≡ x =
           ended_now m well x r st kk sensed seen q gone n a (ap (has_ended r x) l.state ∙ f) in
           let s = seg.all g r.mode a.job.invocation a.mode a.invocation a.mode_at a.at a.task in
           let e : Receive = s.1 in
@@ -149,29 +152,30 @@ module _ (p : Program) (pl : Placement) (node : ℕ) (m : Module) (well : WellMo
           ∙ sym (ap₂ rows f (seen-is ∙ g))
 
       by_ended : (b : Bool) → has_ended r x u ≡ b →
-          taken_rows x node q es nows ≡ rows (has_ended r x u) (sees p pl node kk u.text)
+          taken_rows x node q es nows ≡ rows (has_ended r x u) (sees p pl node kk u.definition)
       by_ended false f =
           rows-none x node q es nows (entries_weak Both (λ e now. is_at x now.due ≡ true → ⊥) es nows
           (λ j e now at b due. let d = due_is n u here e now (seg.tasks j e at) b.0 due in let g = d.ends in
           cc (g, f)) ps)
-          ∙ ap (λ b. rows b (sees p pl node kk u.text)) (sym f)
+          ∙ ap (λ b. rows b (sees p pl node kk u.definition)) (sym f)
       by_ended true f = by_public f task.public refl
 
   -- the rows of the entries of all tasks are the port rows of the module
-  pub stub_rows : (n : ℕ) (ts : List Task) (us : List TaskState) → map (λ (u : TaskState). u.text) us ≡ ts →
+  pub stub_rows : (n : ℕ) (ts : List Task) (us : List TaskState) → map (λ (u : TaskState). u.definition) us ≡ ts →
       ((t : ℕ) (u : TaskState) → slice_get us t ≡ Some u → slice_get r.tasks (n + t) ≡ Some u) →
       (es : List Receive) (nows : List EntryNow) → Grouped m n ts es → AllEntries Both es nows →
       taken_rows x node q es nows ≡ joined (numbered n (task_port_rows p pl node x kk r) us)
-  stub_rows n [] [] texts here es nows g ps = rows-empty x node q es nows g
-  stub_rows n [] (u ∷ us) texts here es nows g ps = absurd (cc texts)
-  stub_rows n (t ∷ ts) [] texts here es nows g ps = absurd (cc texts)
-  stub_rows n (t ∷ ts) (u ∷ us) texts here es nows g ps =
+  stub_rows n [] [] definitions here es nows g ps = rows-empty x node q es nows g
+  stub_rows n [] (u ∷ us) definitions here es nows g ps = absurd (cc definitions)
+  stub_rows n (t ∷ ts) [] definitions here es nows g ps = absurd (cc definitions)
+  stub_rows n (t ∷ ts) (u ∷ us) definitions here es nows g ps =
       let h = halves Both g.front g.back nows (subst (λ l. AllEntries Both l nows) g.is ps) in
       let z : n + 0 ≡ n = omega arith in
-      let heads : u.text ≡ t = ap (head_or t) texts in
+      let heads : u.definition ≡ t = ap (head_or t) definitions in
       let one = segment_rows n t u (ap (slice_get r.tasks) (sym z) ∙ here 0 u refl) heads g.front h.one g.segment
       h.first in
-      let rest = stub_rows (suc n) ts us (ap rest_of texts) (λ i v at. let s : suc n + i ≡ n + suc i = omega arith in
+      let rest =
+      stub_rows (suc n) ts us (ap rest_of definitions) (λ i v at. let s : suc n + i ≡ n + suc i = omega arith in
       ap (slice_get r.tasks) s ∙ here (suc i) v at) g.back h.two g.more h.second in
       ap₂ (λ a b. taken_rows x node q a b) g.is h.is ∙ rows-append Both x node q g.front g.back h.one h.two h.first
       ∙ ap₂ (λ a b. a ++ b) one rest

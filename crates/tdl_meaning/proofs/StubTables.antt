@@ -13,29 +13,32 @@ use Rattle.tdl_deploy.specs.Placed.{hosts, imports, is_remote}
 use Rattle.tdl_mode.specs.Imports.{imports_of, is_among}
 use Rattle.tdl_gen.specs.Tables.{stub_of}
 use Rattle.tdl_base.proofs.Finding.{passing-any}
-use Rattle.tdl_meaning.proofs.PartsAndBus.{StubTables}
 use Rattle.tdl_gen.proofs.EntryTables.{own_blocks}
 use Rattle.tdl_meaning.proofs.BusWindowTables.{well_receive, sender}
 use Rattle.tdl_meaning.proofs.EntriesThere.{all_received}
 use Rattle.tdl_meaning.specs.Accepted.{Accepted}
+use Rattle.tdl_meaning.specs.BusTables.{StubTables}
 
 -- a public task of a module that a node imports and does not host is remote
-pub remote-is : (p : Program) (pl : Placement) (node kk : ℕ) → hosts pl node kk ≡ false → imports p pl node kk ≡ true →
-    (task : Task) → is_remote p pl kk task ≡ task.public
-remote-is p pl node kk away near task = by_node (slice_get pl.nodes node) refl
+pub remote-is : (program : Program) (placement : Placement) (node kk : ℕ) →
+    hosts placement node kk ≡ false → imports program placement node kk ≡ true →
+    (task : Task) → is_remote program placement kk task ≡ task.public
+remote-is program placement node kk away near task = by_node (slice_get placement.nodes node) refl
   where
     hosted : Option PlacedNode → List ModuleId
     hosted o = unwrap_or (option_map (λ n. n.modules) o) []
 
     is_used : List ModuleId → Bool
-    is_used ms = list_any (λ h. is_among kk (imports_of p h.0)) ms
+    is_used ms = list_any (λ h. is_among kk (imports_of program h.0)) ms
 
-    by_node : (o : Option PlacedNode) → slice_get pl.nodes node ≡ o → is_remote p pl kk task ≡ task.public
+    by_node : (o : Option PlacedNode) → slice_get placement.nodes node ≡ o →
+        is_remote program placement kk task ≡ task.public
     by_node None at = absurd (cc (ap (λ o. is_used (hosted o)) (sym at) ∙ near))
     by_node (Some n) at =
         let far : is_among kk n.modules ≡ false = ap (λ o. is_among kk (hosted o)) (sym at) ∙ away in
         let uses : is_used n.modules ≡ true = ap (λ o. is_used (hosted o)) (sym at) ∙ near in
-        let some = passing-any (λ (n : PlacedNode). not (is_among kk n.modules) && is_used n.modules) pl.nodes node n at
+        let some =
+        passing-any (λ (n : PlacedNode). not (is_among kk n.modules) && is_used n.modules) placement.nodes node n at
         (ap₂ (λ a b. not a && b) far uses) in
         ap (λ b. task.public && b) some ∙ and-true task.public
 
@@ -43,9 +46,9 @@ remote-is p pl node kk away near task = by_node (slice_get pl.nodes node) refl
 pub stub_tables : (given : Accepted) (gone : ℕ → ℕ → Type 0) (node kk : ℕ) (m : Module) →
     slice_get given.program.modules kk ≡ Some m →
     hosts given.placement node kk ≡ false → imports given.program given.placement node kk ≡ true →
-    StubTables given gone (stub_of given.program given.placement given.schedule kk m)
+    StubTables given (stub_of given.program given.placement given.schedule kk m)
 stub_tables given gone node kk m there away near = record {
-  text = m;
+  definition = m;
   there = there;
   receive = λ n e at. well_receive given kk m there (given.well_formed.modules kk m there) n e at;
   sender = λ n e at. sender given kk m there (given.well_formed.modules kk m there) n e at;

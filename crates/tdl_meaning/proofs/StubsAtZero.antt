@@ -1,21 +1,22 @@
--- Behind instant 0 every stub of the run is in step.
-use Rattle.std.proofs.Common.{◌≡◌, ℕ, List, map, length, Option, Some, ap, sym, ◌∙◌, subst, subst₂}
+-- After instant 0 every stub of the run is in step.
+use Rattle.std.proofs.Common.{◌≡◌, ℕ, map, length, Option, Some, ap, sym, ◌∙◌, subst, subst₂}
 use Rattle.std.specs.Prelude.{slice_get}
 use Rattle.std.proofs.lemmas.List.{length-map}
 use Rattle.tdl_mode.specs.declared.program.Module.{Module}
-use Rattle.tdl_mode.specs.States.{TaskState, ModuleState, Course, look_of, invocations_now}
+use Rattle.tdl_base.specs.Sensed.{Course}
+use Rattle.tdl_mode.specs.States.{TaskState, ModuleState, look_of, invocations_now}
 use Rattle.tdl_mode.specs.Instants.{entered, begun_task}
 use Rattle.tdl_image.specs.declared.stub.Stub.{Stub}
 use Rattle.tdl_image.specs.declared.stub.StubTask.{StubTask}
 use Rattle.tdl_verify.specs.States.{StubNow, Part, Times}
 use Rattle.tdl_verify.specs.States as st
 use Rattle.tdl_gen.specs.Realises.{IsWithinWorst}
-use Rattle.tdl_meaning.proofs.StubsInStep.{InStep, releases-outputs}
+use Rattle.tdl_meaning.proofs.StubsInStep.{releases-outputs}
+use Rattle.tdl_meaning.specs.WithoutLosses.{InStep, StubInStep, InSteps}
 use Rattle.tdl_verify.proofs.NodeSends.{all_parts}
 use Rattle.tdl_base.proofs.SideBySide.{zip-left}
-use Rattle.tdl_meaning.proofs.ModuleStep.{StubInStep}
 use Rattle.tdl_meaning.proofs.PartsBeforeZero.{StubAt, nodes_at}
-use Rattle.tdl_meaning.proofs.HostedOnce.{first_nodes}
+use Rattle.tdl_meaning.specs.SystemStands.{first_nodes}
 use Rattle.tdl_meaning.proofs.NodesBoot.{start_of}
 use Rattle.tdl_meaning.proofs.InstantZero.{AnyAt, any_all, first_seen, first_logic, Starts, booted}
 use Rattle.tdl_meaning.proofs.StubFirstOutputs.{first_in_step}
@@ -32,17 +33,12 @@ unfoldable pub state_of : StubNow → Part → StubNow
 state_of d (Part.Host h s) = d
 state_of d (Part.Outside q t) = t
 
--- every stub of these parts is in step
-abbrev pub InSteps : (ℕ → ModuleState) → List Part → Type 0
-InSteps logic parts = (n : ℕ) (q : Stub) (t : StubNow) → slice_get parts n ≡ Some (Part.Outside q t) →
-    StubInStep logic q t
-
 module _ (given : Accepted) (course : Course) (times : Times) (within : IsWithinWorst given.program times) where
-  -- the state of each module behind instant 0
+  -- the state of each module after instant 0
   abbrev logic : ℕ → ModuleState
   logic = first_logic given course times within
 
-  -- the state of module kk behind instant 0, where there is one
+  -- the state of module kk after instant 0, where there is one
   abbrev begin : ℕ → Option Module → ModuleState
   begin = start_of given (course 0) times within (first_seen given course times within)
 
@@ -55,20 +51,20 @@ module _ (given : Accepted) (course : Course) (times : Times) (within : IsWithin
       (look_of kk (entered m).tasks (course 0) (first_seen given course times within kk)) 1
       (invocations_now (entered m)) (entered m).tasks
 
-  -- a stub before instant 0 is in step with its module behind it
+  -- a stub before instant 0 is in step with its module after it
   first_step : (j : ℕ) (q : Stub) (t : StubNow) → StubAt given j q t → StubInStep logic q t
   unfolding state_of
   first_step j q t a =
-      let outs : t.outputs ≡ map (λ (k : StubTask). st.initials k.outputs) q.tasks =
+      let outs : t.outputs ≡ map (λ (k : StubTask). st.initial_values k.outputs) q.tasks =
       ap (λ r. (state_of t r).outputs) a.is in
       record {
-        size = sym (length-map q.tasks (λ (k : StubTask). st.initials k.outputs)) ∙ ap length (sym outs);
+        size = sym (length-map q.tasks (λ (k : StubTask). st.initial_values k.outputs)) ∙ ap length (sym outs);
         step = subst (λ os. InStep q os (logic q.number.0).tasks) (sym outs)
-            (first_in_step a.text q (logic q.number.0).tasks (ap (λ (s : Stub). s.tasks) a.tables)
-            (outputs_kept q.number.0 a.text a.there));
+            (first_in_step a.definition q (logic q.number.0).tasks (ap (λ (s : Stub). s.tasks) a.tables)
+            (outputs_kept q.number.0 a.definition a.there));
       }
 
-  -- every stub behind instant 0 is in step
+  -- every stub after instant 0 is in step
   pub stubs_first : InSteps logic (all_parts (booted given course times within).after)
   unfolding stub_of state_of
   stubs_first n q t at =

@@ -6,7 +6,7 @@ use Rattle.tdl_image.specs.declared.stub.Receive.{Receive}
 use Rattle.tdl_verify.specs.States.{EntryNow}
 use Rattle.tdl_verify.specs.Turns.{is_at, output_rows}
 use Rattle.tdl_gen.proofs.StubMoves.{taken_rows}
-use Rattle.tdl_meaning.proofs.EntryLists.{AllEntries}
+use Rattle.tdl_meaning.specs.AllItems.{AllEntries}
 
 -- the states of the entries of two lists, cut between them
 pub record Halves (P : Receive → EntryNow → Type 0) (es1 es2 : List Receive) (nows : List EntryNow) : Type 0 where

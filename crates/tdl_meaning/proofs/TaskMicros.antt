@@ -12,7 +12,7 @@ use Rattle.tdl_gen.specs.Tables.{task_table}
 use Rattle.tdl_verify.proofs.JobSlots.{SlotFacts, slot_micro}
 use Rattle.tdl_verify.specs.Covered.{covered_by}
 use Rattle.tdl_gen.proofs.Results.{job_result}
-use Rattle.tdl_meaning.proofs.HostFacts.{TaskPairs, IsJob, SlotPair}
+use Rattle.tdl_meaning.specs.HostInStep.{TaskPairs, IsJob, SlotPair}
 
 -- mode k of a hosted module, with the worst cases of its tasks
 module _ (k : ℕ) (mode : Mode) (h : Hosted) (worst : ℕ → ℕ) where
@@ -20,7 +20,7 @@ module _ (k : ℕ) (mode : Mode) (h : Hosted) (worst : ℕ → ℕ) where
   abbrev pub covers : ℕ → ℕ → ℕ
   covers n d = covered_by k n d h.windows
 
-  -- the length of the locals is that of the text in the table of the task
+  -- the length of the locals is that of the definition in the table of the task
   locals-length : (task : Task) → length (task_table task).locals ≡ length task.locals
   locals-length task = length-map task.locals (λ (d : PortDef). d.kind)
 
@@ -28,7 +28,7 @@ module _ (k : ℕ) (mode : Mode) (h : Hosted) (worst : ℕ → ℕ) where
   abbrev cells_for : Task → List ℤ → Job → List ℤ
   cells_for task outs job = job.inputs ++ outs ++ replicate (length (task_table task).locals) (pos 0)
 
-  -- those cells from the text of its task
+  -- those cells from the definition of its task
   cells-same : (task : Task) (outs : List ℤ) (job : Job) →
       cells_for task outs job ≡ job.inputs ++ outs ++ replicate (length task.locals) (pos 0)
   cells-same task outs job = ap (λ n. job.inputs ++ outs ++ replicate n (pos 0)) (locals-length task)
@@ -75,14 +75,14 @@ module _ (k : ℕ) (mode : Mode) (h : Hosted) (worst : ℕ → ℕ) where
       length (filter (is_live y s) h.windows) ≤ 1 → (n : ℕ) (us : List TaskState) (ws : List TaskNow) →
       TaskPairs k mode covers worst (suc c) c n us ws →
       TaskPairs k mode covers worst (suc c) (suc c) n us
-      (tasks_run (filter (is_live y s) h.windows) (map (λ (u : TaskState). task_table u.text) us) ws)
+      (tasks_run (filter (is_live y s) h.windows) (map (λ (u : TaskState). task_table u.definition) us) ws)
   micro_pairs c y s md at few n [] [] ps = tt
   micro_pairs c y s md at few n [] (w ∷ ws) ps = absurd ps
   micro_pairs c y s md at few n (u ∷ us) [] ps = absurd ps
   micro_pairs c y s md at few n (u ∷ us) (w ∷ ws) ps = (
     record {
       outputs = ps.0.outputs;
-      slot = micro_slot n c y s md at few u.text u.outputs u.active w.slot ps.0.slot;
+      slot = micro_slot n c y s md at few u.definition u.outputs u.active w.slot ps.0.slot;
     },
     micro_pairs c y s md at few (suc n) us ws ps.1,
   )

@@ -1,4 +1,4 @@
--- The outputs of one task that a stub holds behind phase 1, by what its due entries hold.
+-- The outputs of one task that a stub holds after phase 1, by what its due entries hold.
 use Rattle.std.proofs.Common.{◌≡◌, ℕ, zero, suc, ℤ, List, [], ◌∷◌, length, Bool, true, false, ◌==◌, Some, refl, ap, sym, ◌∙◌, inl, inr}
 use Rattle.std.specs.Prelude.{◌⊎◌, slice_get, if◌then◌else◌}
 use Rattle.std.proofs.lemmas.Bool.{eqb-true, eq-eqb}
@@ -8,15 +8,15 @@ use Rattle.tdl_image.specs.declared.stub.Receive.{Receive}
 use Rattle.tdl_verify.specs.States.{EntryNow, stub_outputs}
 use Rattle.tdl_verify.specs.Turns.{is_at, replaced_in}
 use Rattle.tdl_gen.proofs.StubMoves.{taken_outputs}
-use Rattle.tdl_meaning.proofs.EntryLists.{AllEntries}
 use Rattle.tdl_verify.proofs.Replaced.{is_numbered, replaced-same, replaced-other, replaced-length}
+use Rattle.tdl_meaning.specs.AllItems.{AllEntries}
 
 module _ (x : ℕ) (p : Stub) (t : ℕ) where
   -- the due entries of this task hold these outputs
   abbrev pub Holds : List ℤ → Receive → EntryNow → Type 0
   Holds c e now = is_at x now.due ≡ true → e.task ≡ t → now.copy ≡ c
 
-  -- the stub's outputs behind one entry, due or not
+  -- the stub's outputs after one entry, due or not
   abbrev if_due : Bool → Receive → EntryNow → List (List ℤ) → List (List ℤ)
   if_due b e now outs = if b then replaced_in e.task now.copy p.tasks outs else outs
 
@@ -51,7 +51,7 @@ module _ (x : ℕ) (p : Stub) (t : ℕ) where
       by_test true q = replaced-other t e.task now.copy (ps.0 q) p.tasks outs
       by_test false q = refl
 
-  -- behind one entry the outputs of the task are c, where they were or where the entry is due and of the task
+  -- after one entry the outputs of the task are c, where they were or where the entry is due and of the task
   step-holds : is_numbered t p.tasks ≡ true → (c : List ℤ) (e : Receive) (now : EntryNow) → Holds c e now →
       (outs : List (List ℤ)) → length p.tasks ≡ length outs → (b : Bool) → is_at x now.due ≡ b →
       (stub_outputs t p.tasks outs ≡ c) ⊎ ((b ≡ true) × (e.task ≡ t)) →

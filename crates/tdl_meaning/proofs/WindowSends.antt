@@ -1,23 +1,24 @@
 -- What a bus window sends at its start: the job's result, or that there is none; never late.
-use Rattle.std.proofs.Common.{◌≡◌, ℕ, suc, ◌+◌, ◌<◌, ◌≤◌, ℤ, List, [], ◌∷◌, length, Bool, true, false, ◌&&◌, ◌==◌, Option, Some, None, refl, ap, ap₂, sym, ◌∙◌, subst, arith}
+use Rattle.std.proofs.Common.{◌≡◌, ℕ, suc, ◌+◌, ◌≤◌, ℤ, List, [], ◌∷◌, length, Bool, true, false, ◌&&◌, ◌==◌, Option, Some, None, refl, ap, ap₂, sym, ◌∙◌, subst, arith}
 use Rattle.std.specs.Prelude.{slice_get, if◌then◌else◌}
 use Rattle.std.proofs.lemmas.Bool.{eqb-true, eq-eqb, and_parts, and_from}
 use Rattle.std.proofs.lemmas.List.{length-map}
 use Rattle.std.proofs.lemmas.Option.{same_Some}
 use Rattle.tdl_mode.specs.declared.program.Module.{Module}
-use Rattle.tdl_mode.specs.declared.program.Mode.{Mode}
-use Rattle.tdl_mode.specs.declared.program.Invocation.{Invocation}
-use Rattle.tdl_mode.specs.States.{Job, TaskState, ModuleState, invocation_of, result_of}
+use Rattle.tdl_mode.specs.States.{Job, TaskState, ModuleState, result_of}
 use Rattle.tdl_frame.specs.Frames.{Member}
 use Rattle.tdl_image.specs.declared.hosted.Hosted.{Hosted}
 use Rattle.tdl_image.specs.declared.hosted.ImageWindow.{ImageWindow}
 use Rattle.tdl_verify.specs.States.{Slot, TaskNow, HostNow}
 use Rattle.tdl_verify.specs.Bus.{Start, task_of, start_of, window_member, member_by, start_by}
 use Rattle.tdl_verify.specs.Covered.{covered_by}
-use Rattle.tdl_meaning.proofs.HostFacts.{SlotPair, TaskPair, PairAt, pair_at, HostAfter, worst_of}
-use Rattle.tdl_meaning.proofs.ActiveJobs.{ActiveJob}
+use Rattle.tdl_meaning.proofs.HostFacts.{PairAt, pair_at}
 use Rattle.tdl_meaning.proofs.HostJobs.{active_from}
-use Rattle.tdl_meaning.proofs.FramesOnBus.{Executed, Carries}
+use Rattle.tdl_deploy.specs.AtRelease.{worst_case_of}
+use Rattle.tdl_meaning.specs.HostInStep.{SlotPair, TaskPair, HostAfter}
+use Rattle.tdl_meaning.specs.Entries.{ActiveJob}
+use Rattle.tdl_meaning.specs.BusFrames.{Executed, Carries}
+use Rattle.tdl_meaning.specs.BusTables.{WellWindow}
 
 -- ---- the start of a bus window, by the slot of its task
 
@@ -31,19 +32,6 @@ start_of-is h s w outputs (Slot.Ready mode invocation left cells) count at = rw 
 start_of-is h s w outputs (Slot.Done mode invocation made) count at = rw at refl
 
 -- ---- what it sends
-
--- a bus window that lies inside its invocation, where the processor windows before it cover the worst case
-pub record WellWindow (m : Module) (h : Hosted) (w : ImageWindow) : Type 0 where
-  pub mode : Mode
-  pub mode_at : slice_get m.modes w.mode ≡ Some mode
-  pub invocation : Invocation
-  pub at : invocation_of mode.invocations w.invocation ≡ Some invocation
-  pub after : invocation.s.0 < w.offset
-  pub within : w.offset + w.length ≤ invocation.e.0
-  pub lasts : 0 < w.length
-  pub full : worst_of m invocation.task.0 ≤ covered_by w.mode w.invocation w.offset h.windows
-  pub task : task_of h w.mode w.invocation ≡ invocation.task.0
-  pub there : invocation.task.0 < length m.tasks
 
 -- the window of an invocation of task t sends a frame of one member: executed with the result of the invocation's job,
 -- or not executed where there is no such job
@@ -73,7 +61,7 @@ module _ (m : Module) (h : Hosted) (x : ℕ) (r : ModuleState) (s : HostNow) (f 
   -- a job of the task beside a slot
   abbrev Slotted : TaskState → Option Job → Slot → Type 0
   Slotted u active slot =
-      SlotPair r.mode f.facts.mode covers (worst_of m) t (suc o) o u.text u.outputs active slot
+      SlotPair r.mode f.facts.mode covers (worst_case_of m) t (suc o) o u.definition u.outputs active slot
 
   -- the task's outputs and slot on the node
   abbrev Stored : List ℤ → Slot → ℕ → Type 0
@@ -131,10 +119,10 @@ module _ (m : Module) (h : Hosted) (x : ℕ) (r : ModuleState) (s : HostNow) (f 
       by_test true e =
           let q = and_parts (k == w.mode) (i == w.invocation) e in
           let n : job.invocation ≡ w.invocation = sym pair.2 ∙ eqb-true i w.invocation q.1 in
-          let full : worst_of m t ≤ covers job.invocation o =
-          subst (λ k. worst_of m t ≤ covered_by k job.invocation o h.windows) same_mode
-          (subst (λ j. worst_of m t ≤ covered_by w.mode j o h.windows) (sym n)
-          (subst (λ d. worst_of m t ≤ covered_by w.mode w.invocation d h.windows) offset_is ok.full)) in
+          let full : worst_case_of m t ≤ covers job.invocation o =
+          subst (λ k. worst_case_of m t ≤ covered_by k job.invocation o h.windows) same_mode
+          (subst (λ j. worst_case_of m t ≤ covered_by w.mode j o h.windows) (sym n)
+          (subst (λ d. worst_case_of m t ≤ covered_by w.mode w.invocation d h.windows) offset_is ok.full)) in
           let more = pair.4 in
           let within = pair.5 in
           absurd (omega (arith, full, more, within))
@@ -165,7 +153,8 @@ module _ (m : Module) (h : Hosted) (x : ℕ) (r : ModuleState) (s : HostNow) (f 
             executed = λ e'. record {
               job = own.active;
               invocation = ap (λ (j : Job). j.invocation) own.same ∙ n;
-              values' = pair.3 ∙ ap₂ (λ (v : TaskState) (j : Job). result_of v.text j.inputs v.outputs) (sym own.state)
+              values' =
+                  pair.3 ∙ ap₂ (λ (v : TaskState) (j : Job). result_of v.definition j.inputs v.outputs) (sym own.state)
                   (sym own.same);
             };
             idle = λ e'. absurd (cc e');
@@ -175,7 +164,7 @@ module _ (m : Module) (h : Hosted) (x : ℕ) (r : ModuleState) (s : HostNow) (f 
 
   -- a task beside its state on the node
   abbrev TaskAt : ℕ → TaskState → TaskNow → Type 0
-  TaskAt j u v = TaskPair r.mode f.facts.mode covers (worst_of m) j (suc o) o u v
+  TaskAt j u v = TaskPair r.mode f.facts.mode covers (worst_case_of m) j (suc o) o u v
 
   -- the window's task beside its state on the node makes the window send a frame
   sends_at : PairAt TaskAt 0 t r.tasks s.tasks → SendsFrame m h x r s w t
@@ -189,7 +178,7 @@ module _ (m : Module) (h : Hosted) (x : ℕ) (r : ModuleState) (s : HostNow) (f 
   pub sends_frame : SendsFrame m h x r s w t
   sends_frame =
       let size : length r.tasks ≡ length m.tasks =
-      sym (length-map r.tasks (λ (u : TaskState). u.text)) ∙ ap length f.facts.texts in
+      sym (length-map r.tasks (λ (u : TaskState). u.definition)) ∙ ap length f.facts.definitions in
       let there = ok.there in
       sends_at (pair_at TaskAt 0 t r.tasks s.tasks (omega (arith, size, there)) f.facts.tasks)
 

@@ -110,12 +110,12 @@ module _ (given : Accepted) (x node : ℕ) where
       clear a b (inr c) va vb = let f = va.from in let l = vb.below in omega (arith, c, f, l)
 
   -- a hosted module whose cycle began at an instant that its grain divides
-  pub record Grained (n : ℕ) (text : Module) (now : HostNow) : Type 0 where
-    pub at : slice_get given.program.modules n ≡ Some text
+  pub record Grained (n : ℕ) (definition : Module) (now : HostNow) : Type 0 where
+    pub at : slice_get given.program.modules n ≡ Some definition
     pub hosted : hosts given.placement node n ≡ true
     pub mode : ℕ
     pub mode' : now.mode ≡ Some mode
-    pub grain : (g : ℕ) → DividesCycles g text → g ∣ now.base
+    pub grain : (g : ℕ) → DividesCycles g definition → g ∣ now.base
 
   -- windows of two modules of this node are not live together
   pub never_both_live : (n j : ℕ) (m d : Module) (a b : HostNow) → (n == j) ≡ false → Grained n m a → Grained j d b →

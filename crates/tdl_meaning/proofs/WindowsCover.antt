@@ -6,7 +6,8 @@ use Rattle.tdl_deploy.specs.declared.schedule.Schedule.{Schedule}
 use Rattle.tdl_deploy.specs.declared.schedule.Window.{Window}
 use Rattle.tdl_image.specs.declared.hosted.ImageWindow.{ImageWindow}
 use Rattle.tdl_deploy.specs.Passes.{is_bus, is_cpu_of}
-use Rattle.tdl_gen.specs.Tables.{image_window, is_before, placed, ordered_from, windows_of}
+use Rattle.tdl_base.specs.Lists.{inserted}
+use Rattle.tdl_gen.specs.Tables.{image_window, is_before, ordered_from, windows_of}
 use Rattle.tdl_verify.specs.Covered.{is_own, only_if, covered, covered_by}
 
 -- the sum of a count over windows
@@ -16,13 +17,13 @@ total f (w ∷ ws) = f w + total f ws
 
 -- a window that is put in its place adds its count
 placed-total : (f : ImageWindow → ℕ) (w : ImageWindow) (vs : List ImageWindow) →
-    total f (placed w vs) ≡ f w + total f vs
+    total f (inserted is_before w vs) ≡ f w + total f vs
 unfolding total
 placed-total f w [] = refl
 placed-total f w (v ∷ vs) = by_test (placed-total f w vs) (is_before w v)
   where
-    by_test : total f (placed w vs) ≡ f w + total f vs → (b : Bool) →
-        total f (if b then w ∷ v ∷ vs else v ∷ placed w vs) ≡ f w + (f v + total f vs)
+    by_test : total f (inserted is_before w vs) ≡ f w + total f vs → (b : Bool) →
+        total f (if b then w ∷ v ∷ vs else v ∷ inserted is_before w vs) ≡ f w + (f v + total f vs)
     by_test rest true = refl
     by_test rest false = omega (arith, rest)
 
@@ -32,7 +33,7 @@ ordered-total : (f : ImageWindow → ℕ) (done ws : List ImageWindow) →
 unfolding total
 ordered-total f done [] = omega arith
 ordered-total f done (w ∷ ws) =
-    let a = ordered-total f (placed w done) ws in
+    let a = ordered-total f (inserted is_before w done) ws in
     let b = placed-total f w done in
     omega (arith, a, b)
 
@@ -113,12 +114,13 @@ lengths-covered kk k n d (w ∷ ws) done =
         ∙ ap (λ a. a + total (own k n d) (imaged kk ws)) (sym here) ∙ sym (ap total_if e)
 
 -- where the processor windows of an invocation end by offset d, the image's windows cover their lengths by d
-pub covers_all : (s : Schedule) (kk k n d : ℕ) → ((j : ℕ) (w : Window) → slice_get s.windows j ≡ Some w →
+pub covers_all : (schedule : Schedule) (kk k n d : ℕ) → ((j : ℕ) (w : Window) → slice_get schedule.windows j ≡ Some w →
     is_cpu_of kk k n w ≡ true → w.offset + w.length ≤ d) →
-    sum (map (λ (w : Window). w.length) (filter (is_cpu_of kk k n) s.windows)) ≡ covered_by k n d (windows_of s kk)
+    sum (map (λ (w : Window). w.length) (filter (is_cpu_of kk k n) schedule.windows))
+    ≡ covered_by k n d (windows_of schedule kk)
 unfolding total
-covers_all s kk k n d done =
-    let a = lengths-covered kk k n d s.windows done in
-    let b = ordered-total (own k n d) [] (imaged kk s.windows) in
-    let c = covered-total k n d (windows_of s kk) in
+covers_all schedule kk k n d done =
+    let a = lengths-covered kk k n d schedule.windows done in
+    let b = ordered-total (own k n d) [] (imaged kk schedule.windows) in
+    let c = covered-total k n d (windows_of schedule kk) in
     omega (arith, a, b, c)

@@ -15,7 +15,8 @@ use Rattle.tdl_mode.specs.declared.program.Invocation.{Invocation}
 use Rattle.tdl_mode.specs.declared.program.Update.{Update}
 use Rattle.tdl_mode.specs.declared.program.Switch.{Switch}
 use Rattle.tdl_mode.specs.declared.program.PortDef.{PortDef}
-use Rattle.tdl_mode.specs.States.{ModuleState, State, Course}
+use Rattle.tdl_base.specs.Sensed.{Course}
+use Rattle.tdl_mode.specs.States.{ModuleState, State}
 use Rattle.tdl_trace.specs.Shown.{Shown}
 use Rattle.tdl_deploy.specs.declared.placement.Placement.{Placement}
 use Rattle.tdl_deploy.specs.declared.schedule.Schedule.{Schedule}
@@ -26,8 +27,8 @@ use Rattle.tdl_deploy.specs.declared.schedule.Resource.TheVariants.{Cpu, Bus}
 -- ---- parts of its modules
 
 -- a port of kind int
-abbrev pub int_of : List ℕ → ℤ → PortDef
-int_of name initial = record { kind = Int; name = name; initial = initial }
+abbrev pub int_port : List ℕ → ℤ → PortDef
+int_port name initial = record { kind = Int; name = name; initial = initial }
 
 -- the output, cell 1, plus the input, cell 0
 abbrev pub cell_sum : Expr
@@ -39,8 +40,8 @@ adding name public worst initial = record {
   name = name;
   public = public;
   worst = record { 0 = worst };
-  inputs = int_of (codes "a") (pos 0) ∷ [];
-  outputs = int_of (codes "o") initial ∷ [];
+  inputs = int_port (codes "a") (pos 0) ∷ [];
+  outputs = int_port (codes "o") initial ∷ [];
   locals = [];
   body = record { stmts = stmt.Assign 1 cell_sum ∷ [] };
 }
@@ -106,7 +107,7 @@ meter = record {
   name = codes "Meter";
   imports = [];
   constants = [];
-  sensors = int_of (codes "s") (pos 0) ∷ [];
+  sensors = int_port (codes "s") (pos 0) ∷ [];
   actuators = [];
   tasks = count_task ∷ [];
   modes = quick_mode ∷ slow_mode ∷ [];
@@ -144,7 +145,7 @@ panel = record {
   imports = record { 0 = 0 } ∷ [];
   constants = [];
   sensors = [];
-  actuators = int_of (codes "v") (pos 0) ∷ [];
+  actuators = int_port (codes "v") (pos 0) ∷ [];
   tasks = gather_task ∷ [];
   modes = gathering_mode ∷ [];
   start = record { 0 = 0 };
@@ -226,11 +227,11 @@ always_one x m i = pos 1
 -- a module with one active job, in a mode whose cycle began at `base`
 abbrev pub module_now : Module → Task → (mode base : ℕ) → (output input : ℤ) → List ℤ → ModuleState
 module_now m task mode base output input actuators = record {
-  text = m;
+  definition = m;
   mode = mode;
   base = base;
   tasks = record {
-    text = task;
+    definition = task;
     outputs = output ∷ [];
     active = Some (record { mode = mode; invocation = 1; inputs = input ∷ [] });
   } ∷ [];
@@ -255,15 +256,15 @@ second_state =
 
 -- the rows at 0 us
 abbrev pub first_shown : List Shown
-first_shown = Shown.Entered 0 0 0 0 ∷ Shown.Entered 0 0 2 0 ∷ Shown.Entered 0 1 1 0 ∷ []
+first_shown = Shown.Mode 0 0 0 0 ∷ Shown.Mode 0 0 2 0 ∷ Shown.Mode 0 1 1 0 ∷ []
 
 -- the rows at 10 us: both nodes show both outputs, the meter's node its new mode, and the panel's node the actuator
 abbrev pub second_shown : List Shown
 second_shown =
-    Shown.Committed 10 0 0 0 0 (pos 11)
-    ∷ Shown.Committed 10 0 1 0 0 (pos 10)
-    ∷ Shown.Entered 10 0 0 1
-    ∷ Shown.Committed 10 1 0 0 0 (pos 11)
-    ∷ Shown.Committed 10 1 1 0 0 (pos 10)
-    ∷ Shown.Updated 10 1 1 0 (pos 11)
+    Shown.Port 10 0 0 0 0 (pos 11)
+    ∷ Shown.Port 10 0 1 0 0 (pos 10)
+    ∷ Shown.Mode 10 0 0 1
+    ∷ Shown.Port 10 1 0 0 0 (pos 11)
+    ∷ Shown.Port 10 1 1 0 0 (pos 10)
+    ∷ Shown.Act 10 1 1 0 (pos 11)
     ∷ []

@@ -1,2 +1,14 @@
 pub mod Accepted
 pub mod ExampleThree
+pub mod AllItems
+pub mod HostInStep
+pub mod Entries
+pub mod BusTables
+pub mod BusFrames
+pub mod PartFacts
+pub mod NodeShape
+pub mod OneNode
+pub mod Conditions
+pub mod SystemStands
+pub mod WithoutLosses
+pub mod BusTurn

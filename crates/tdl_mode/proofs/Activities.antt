@@ -65,7 +65,7 @@ pub update_value-from : (x : ℕ) (m : ModuleState) (look : Look) (a : ℕ) (v :
 update_value-from x m look a v is = by_mode (present m) refl is
   where
     kind : Kind
-    kind = unwrap_or (option_map (λ p. p.kind) (slice_get m.text.actuators a)) Long
+    kind = unwrap_or (option_map (λ p. p.kind) (slice_get m.definition.actuators a)) Long
 
     test : Update → Bool
     test u = u.actuator == a && (m.base + u.at.0 == x && holds u.guard look)

@@ -95,7 +95,7 @@ module _ (look look' : Look) where
       (λ a v. ap (λ o. unwrap_or o v) (first_value-same (kind_of a) a x m.base (updates_now m) h)) 0 m.actuators)
     where
       kind_of : ℕ → Kind
-      kind_of a = unwrap_or (option_map (λ p. p.kind) (slice_get m.text.actuators a)) Long
+      kind_of a = unwrap_or (option_map (λ p. p.kind) (slice_get m.definition.actuators a)) Long
 
   -- ---- phase 3
 
@@ -125,7 +125,7 @@ module _ (look look' : Look) where
     where
       same : released m.mode k i look ≡ released m.mode k i look'
       same q u =
-          let inputs = args-same (kinds_of u.text.inputs) i.args h.0.1 q in
+          let inputs = args-same (kinds_of u.definition.inputs) i.args h.0.1 q in
           record u { active = Some (record { mode = m.mode; invocation = k; inputs = inputs }) }
 
   -- both views lead to one state after the releases

@@ -8,7 +8,8 @@ use Rattle.tdl_base.specs.declared.numbers.PortKey.{PortKey}
 use Rattle.tdl_body.specs.Values.{Look, holds}
 use Rattle.tdl_mode.specs.declared.program.Mode.{Mode}
 use Rattle.tdl_mode.specs.declared.program.Switch.{Switch}
-use Rattle.tdl_mode.specs.States.{ModuleState, Sensed, present, look_of}
+use Rattle.tdl_base.specs.Sensed.{Sensed}
+use Rattle.tdl_mode.specs.States.{ModuleState, present, look_of}
 use Rattle.tdl_mode.specs.Phases.{phase_one, phase_two, switch_target, switches_now, is_over, switched}
 use Rattle.tdl_mode.specs.Instants.{alone}
 use Rattle.tdl_mode.specs.Grains.{DividesCycles}
@@ -103,7 +104,7 @@ module _ (k x : ℕ) (sensed : Sensed) (seen : PortKey → ℤ) (m : ModuleState
       switched-over x updated look mode now ends (switch_target updated x look)
 
   -- what divides every period and every switch's offset, and the base, divides the base after
-  pub alone-divided : (d : ℕ) → DividesCycles d m.text → d ∣ m.base → d ∣ (alone k x sensed seen m).base
+  pub alone-divided : (d : ℕ) → DividesCycles d m.definition → d ∣ m.base → d ∣ (alone k x sensed seen m).base
   alone-divided d cycles divides = by_end alone-turns
     where
       by_ends : (mode : Mode) → present m ≡ Some mode → (m.base + mode.period.0 ≡ x) ⊎ SwitchAt m.base x mode → d ∣ x

@@ -1,3 +1,4 @@
+mod PhaseExamples
 pub mod ModuleByModule
 pub mod Agreeing
 pub mod NextOffsets

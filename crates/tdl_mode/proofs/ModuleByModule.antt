@@ -4,7 +4,8 @@ use Rattle.std.specs.Prelude.{slice_get, option_map, unwrap_or, if◌then◌else
 use Rattle.tdl_base.specs.Lists.{numbered}
 use Rattle.tdl_base.specs.declared.numbers.PortKey.{PortKey}
 use Rattle.tdl_body.specs.Values.{Look}
-use Rattle.tdl_mode.specs.States.{ModuleState, State, Sensed, outputs_in, output_at, look_of}
+use Rattle.tdl_base.specs.Sensed.{Sensed}
+use Rattle.tdl_mode.specs.States.{ModuleState, State, outputs_in, output_at, look_of}
 use Rattle.tdl_mode.specs.Phases.{phase_one, phase_two, phase_three, phase_four, switched, switch_target, is_over}
 use Rattle.tdl_mode.specs.Instants.{logical, alone}
 use Rattle.tdl_mode.specs.Laws.{IsModuleByModule}

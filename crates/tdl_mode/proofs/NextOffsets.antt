@@ -8,15 +8,10 @@ use Rattle.std.proofs.lemmas.Option.{slice_get-map, same_Some}
 use Rattle.std.proofs.Math.Nat.{min-eq_left, min-eq_right}
 use Rattle.tdl_mode.specs.declared.program.Mode.{Mode}
 use Rattle.tdl_mode.specs.declared.program.Invocation.{Invocation}
+pub use Rattle.tdl_mode.specs.Offsets.{IsNext}
 use Rattle.tdl_mode.specs.Offsets.{is_offset, offset_list, least_above, next_offset}
 use Rattle.tdl_base.proofs.Tests.{eq_self}
 use Rattle.tdl_base.proofs.Finding.{passing-any, any-passing}
-
--- o is the least offset of the mode from d on
-pub record IsNext (mode : Mode) (d o : ℕ) : Type 0 where
-  pub at : is_offset mode o ≡ true
-  pub from : d ≤ o
-  pub least : (p : ℕ) → is_offset mode p ≡ true → d ≤ p → o ≤ p
 
 -- ---- the least number of a list above another
 

@@ -18,7 +18,8 @@ use Rattle.tdl_mode.specs.declared.program.Invocation.{Invocation}
 use Rattle.tdl_mode.specs.declared.program.Update.{Update}
 use Rattle.tdl_mode.specs.declared.program.Switch.{Switch}
 use Rattle.tdl_mode.specs.Offsets.{is_offset}
-use Rattle.tdl_mode.specs.States.{Job, TaskState, ModuleState, Sensed, invocation_of, invocations_now, look_of}
+use Rattle.tdl_base.specs.Sensed.{Sensed}
+use Rattle.tdl_mode.specs.States.{Job, TaskState, ModuleState, invocation_of, invocations_now, look_of}
 use Rattle.tdl_mode.specs.Phases.{ended, job_ends, has_ended, task_after, phase_one, taken_update, update_value, phase_two, switch_target, is_over, switched, phase_three, released, releases, phase_four}
 use Rattle.tdl_mode.specs.Instants.{alone}
 
@@ -41,7 +42,7 @@ not_at f d (x ∷ xs) zero a h at =
 not_at f d (x ∷ xs) (suc n) a h at = not_at f d xs n a (or_parts (f x == d) (among d (map f xs)) h).1 at
 
 -- a module r that is in `mode`, at x, which is no offset of it
-module _ (x d : ℕ) (mode : Mode) (r : ModuleState) (is : slice_get r.text.modes r.mode ≡ Some mode)
+module _ (x d : ℕ) (mode : Mode) (r : ModuleState) (is : slice_get r.definition.modes r.mode ≡ Some mode)
     (now : x ≡ r.base + d) (off : is_offset mode d ≡ false)
   where
     -- what stands at an offset stands at x where that offset is d
@@ -134,7 +135,7 @@ module _ (x d : ℕ) (mode : Mode) (r : ModuleState) (is : slice_get r.text.mode
     not_updated look a = ap (option_map (λ (u : Update). narrowed kind (value_of u.value look))) taken
       where
         kind : Kind
-        kind = unwrap_or (option_map (λ p. p.kind) (slice_get r.text.actuators a)) Long
+        kind = unwrap_or (option_map (λ p. p.kind) (slice_get r.definition.actuators a)) Long
 
         test : Update → Bool
         test u = u.actuator == a && (r.base + u.at.0 == x && holds u.guard look)

@@ -12,7 +12,8 @@ use Rattle.tdl_mode.specs.declared.program.Mode.{Mode}
 use Rattle.tdl_mode.specs.declared.program.Invocation.{Invocation}
 use Rattle.tdl_mode.specs.declared.program.Update.{Update}
 use Rattle.tdl_mode.specs.declared.program.Switch.{Switch}
-use Rattle.tdl_mode.specs.States.{ModuleState, Sensed, present, invocations_now, look_of, output_at}
+use Rattle.tdl_base.specs.Sensed.{Sensed}
+use Rattle.tdl_mode.specs.States.{ModuleState, present, invocations_now, look_of, output_at}
 use Rattle.tdl_mode.specs.Phases.{phase_one, phase_two, phase_three, phase_four, updates_now, switches_now, switched, switch_target, is_over}
 use Rattle.tdl_mode.specs.Instants.{alone}
 use Rattle.tdl_mode.specs.Laws.{AgreeOnRead}
@@ -20,12 +21,12 @@ use Rattle.tdl_mode.specs.WellFormed.{ReadsPort, MayRead, AllRead, Readable, Gua
 use Rattle.tdl_body.proofs.Reading.{AllSame, value_agrees}
 use Rattle.tdl_mode.proofs.Agreeing.{SameValue, SameGuard, SameArgs, SameUpdates, SameSwitches, SameInvocations, phase_two-same, phase_three-same, phase_four-same}
 
--- a switch, or the next cycle, leaves the module's text
-switched-text : (x : ℕ) (r : ModuleState) (target : Option ℕ) → (switched x r target).text ≡ r.text
-switched-text x r (Some target) = refl
-switched-text x r None = by_over (is_over r x)
+-- a switch, or the next cycle, leaves the module's definition
+switched-definition : (x : ℕ) (r : ModuleState) (target : Option ℕ) → (switched x r target).definition ≡ r.definition
+switched-definition x r (Some target) = refl
+switched-definition x r None = by_over (is_over r x)
   where
-    by_over : (b : Bool) → (if b then record r { base = x } else r).text ≡ r.text
+    by_over : (b : Bool) → (if b then record r { base = x } else r).definition ≡ r.definition
     by_over true = refl
     by_over false = refl
 
@@ -89,13 +90,13 @@ module _ (p : Program) (kk : ℕ) (m : Module) (well : WellModule p kk m) (look 
 
     -- ---- its states, whatever mode it is in
 
-    -- the mode that it is in stands in its text
-    present-text : (r : ModuleState) → r.text ≡ m → slice_get m.modes r.mode ≡ present r
-    present-text r text = ap (λ (t : Module). slice_get t.modes r.mode) (sym text)
+    -- the mode that it is in stands in its definition
+    present-definition : (r : ModuleState) → r.definition ≡ m → slice_get m.modes r.mode ≡ present r
+    present-definition r definition = ap (λ (t : Module). slice_get t.modes r.mode) (sym definition)
 
     -- the updates of that mode agree
-    pub updates_now-same : (r : ModuleState) → r.text ≡ m → SameUpdates look look' (updates_now r)
-    updates_now-same r text = by_mode (present r) (present-text r text)
+    pub updates_now-same : (r : ModuleState) → r.definition ≡ m → SameUpdates look look' (updates_now r)
+    updates_now-same r definition = by_mode (present r) (present-definition r definition)
       where
         by_mode : (o : Option Mode) → slice_get m.modes r.mode ≡ o →
             SameUpdates look look' (unwrap_or (option_map (λ (mode : Mode). mode.updates) o) [])
@@ -103,8 +104,8 @@ module _ (p : Program) (kk : ℕ) (m : Module) (well : WellModule p kk m) (look 
         by_mode (Some mode) at = updates-same mode mode.updates (well.modes r.mode mode at).updates
 
     -- its switches agree
-    switches_now-same : (r : ModuleState) → r.text ≡ m → SameSwitches look look' (switches_now r)
-    switches_now-same r text = by_mode (present r) (present-text r text)
+    switches_now-same : (r : ModuleState) → r.definition ≡ m → SameSwitches look look' (switches_now r)
+    switches_now-same r definition = by_mode (present r) (present-definition r definition)
       where
         by_mode : (o : Option Mode) → slice_get m.modes r.mode ≡ o →
             SameSwitches look look' (unwrap_or (option_map (λ (mode : Mode). mode.switches) o) [])
@@ -112,8 +113,8 @@ module _ (p : Program) (kk : ℕ) (m : Module) (well : WellModule p kk m) (look 
         by_mode (Some mode) at = switches-same r.mode mode mode.switches (well.modes r.mode mode at).switches
 
     -- its invocations agree
-    invocations_now-same : (r : ModuleState) → r.text ≡ m → SameInvocations look look' (invocations_now r)
-    invocations_now-same r text = by_mode (present r) (present-text r text)
+    invocations_now-same : (r : ModuleState) → r.definition ≡ m → SameInvocations look look' (invocations_now r)
+    invocations_now-same r definition = by_mode (present r) (present-definition r definition)
       where
         by_mode : (o : Option Mode) → slice_get m.modes r.mode ≡ o →
             SameInvocations look look' (unwrap_or (option_map (λ (mode : Mode). mode.invocations) o) [])
@@ -122,28 +123,29 @@ module _ (p : Program) (kk : ℕ) (m : Module) (well : WellModule p kk m) (look 
             invocations-same mode mode.invocations (λ q i here. (well.modes r.mode mode at).invocations (suc q) i here)
 
     -- the releases lead to one state
-    pub releases_same : (x : ℕ) (r : ModuleState) → r.text ≡ m → phase_four x look r ≡ phase_four x look' r
-    releases_same x r text = phase_four-same look look' x r (invocations_now-same r text)
+    pub releases_same : (x : ℕ) (r : ModuleState) → r.definition ≡ m → phase_four x look r ≡ phase_four x look' r
+    releases_same x r definition = phase_four-same look look' x r (invocations_now-same r definition)
 
     -- the phases after the terminations lead to one state
-    phases-same : (x : ℕ) (r : ModuleState) → r.text ≡ m →
+    phases-same : (x : ℕ) (r : ModuleState) → r.definition ≡ m →
         phase_four x look (phase_three x look (phase_two x look r))
         ≡ phase_four x look' (phase_three x look' (phase_two x look' r))
-    phases-same x r text =
+    phases-same x r definition =
         let two : ModuleState = phase_two x look' r in
         let three : ModuleState = phase_three x look' two in
-        ap (λ s. phase_four x look (phase_three x look s)) (phase_two-same look look' x r (updates_now-same r text))
-        ∙ ap (phase_four x look) (phase_three-same look look' x two (switches_now-same two text))
-        ∙ releases_same x three (switched-text x two (switch_target two x look') ∙ text)
+        ap (λ s. phase_four x look (phase_three x look s))
+        (phase_two-same look look' x r (updates_now-same r definition))
+        ∙ ap (phase_four x look) (phase_three-same look look' x two (switches_now-same two definition))
+        ∙ releases_same x three (switched-definition x two (switch_target two x look') ∙ definition)
 
 -- two views that agree on the outputs of other modules that a module may read lead to one state of it
 pub alone_same : (p : Program) (kk : ℕ) (m : Module) → WellModule p kk m →
-    (x : ℕ) (sensed : Sensed) (seen seen' : PortKey → ℤ) (r : ModuleState) → r.text ≡ m →
+    (x : ℕ) (sensed : Sensed) (seen seen' : PortKey → ℤ) (r : ModuleState) → r.definition ≡ m →
     AgreeOnRead p kk m seen seen' → alone kk x sensed seen r ≡ alone kk x sensed seen' r
 unfolding alone
-alone_same p kk m well x sensed seen seen' r text agree =
+alone_same p kk m well x sensed seen seen' r definition agree =
     phases-same p kk m well (look_of kk one.tasks sensed seen) (look_of kk one.tasks sensed seen') refl
-    (λ key reads. by_own key reads (key.module.0 == kk) refl) x one text
+    (λ key reads. by_own key reads (key.module.0 == kk) refl) x one definition
   where
     one : ModuleState
     one = phase_one x r

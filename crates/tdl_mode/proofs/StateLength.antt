@@ -3,7 +3,8 @@ use Rattle.std.proofs.Common.{◌≡◌, ℕ, zero, suc, List, [], ◌∷◌, ma
 use Rattle.std.proofs.lemmas.List.{length-map}
 use Rattle.tdl_base.specs.Lists.{numbered}
 use Rattle.tdl_mode.specs.declared.program.Program.{Program}
-use Rattle.tdl_mode.specs.States.{State, Sensed, Course, outputs_in}
+use Rattle.tdl_base.specs.Sensed.{Sensed, Course}
+use Rattle.tdl_mode.specs.States.{State, outputs_in}
 use Rattle.tdl_mode.specs.Phases.{phase_one, phase_four}
 use Rattle.tdl_mode.specs.Instants.{entered, begun, alone, logical, state_at, look_in}
 use Rattle.tdl_mode.proofs.ModuleByModule.{logical-alone}

@@ -6,7 +6,8 @@ use Rattle.tdl_body.specs.Values.{Look}
 use Rattle.tdl_mode.specs.declared.program.Program.{Program}
 use Rattle.tdl_mode.specs.declared.program.Module.{Module}
 use Rattle.tdl_mode.specs.declared.program.Task.{Task}
-use Rattle.tdl_mode.specs.States.{TaskState, ModuleState, State, Sensed, Course, initials_of, outputs_in, look_of}
+use Rattle.tdl_base.specs.Sensed.{Sensed, Course}
+use Rattle.tdl_mode.specs.States.{TaskState, ModuleState, State, initials_of, outputs_in, look_of}
 use Rattle.tdl_mode.specs.Phases.{phase_one, phase_two, phase_three, phase_four}
 
 -- what each module may read in a state
@@ -33,12 +34,12 @@ alone k x sensed seen m = phase_four x look (phase_three x look (phase_two x loo
 
 -- a task before its first job
 abbrev pub begun_task : Task → TaskState
-begun_task t = record { text = t; outputs = initials_of t.outputs; active = None }
+begun_task t = record { definition = t; outputs = initials_of t.outputs; active = None }
 
 -- a module in its start mode, with its initial outputs and actuators
 abbrev pub entered : Module → ModuleState
 entered m = record {
-  text = m;
+  definition = m;
   mode = m.start.0;
   base = 0;
   tasks = map begun_task m.tasks;

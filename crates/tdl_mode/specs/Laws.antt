@@ -13,7 +13,8 @@ use Rattle.tdl_mode.specs.declared.program.Invocation.{Invocation}
 use Rattle.tdl_mode.specs.declared.program.Update.{Update}
 use Rattle.tdl_mode.specs.declared.program.Switch.{Switch}
 use Rattle.tdl_mode.specs.Offsets.{is_offset}
-use Rattle.tdl_mode.specs.States.{Job, TaskState, ModuleState, State, Sensed, present, invocation_of, outputs_in, kinds_of}
+use Rattle.tdl_base.specs.Sensed.{Sensed}
+use Rattle.tdl_mode.specs.States.{Job, TaskState, ModuleState, State, present, invocation_of, outputs_in, kinds_of}
 use Rattle.tdl_mode.specs.Phases.{phase_one, narrowed_args}
 use Rattle.tdl_mode.specs.Instants.{logical, alone}
 use Rattle.tdl_mode.specs.WellFormed.{ReadsPort}
@@ -72,7 +73,7 @@ pub record EndsAt (x : ℕ) (m : ModuleState) (job : Job) : Type 0 where
 
 -- the kind of actuator a
 abbrev kind_of_actuator : ModuleState → ℕ → Kind
-kind_of_actuator m a = unwrap_or (option_map (λ p. p.kind) (slice_get m.text.actuators a)) Long
+kind_of_actuator m a = unwrap_or (option_map (λ p. p.kind) (slice_get m.definition.actuators a)) Long
 
 -- an update of actuator a stands at x, its guard holds, and v is its number
 pub record UpdatesTo (x : ℕ) (m : ModuleState) (look : Look) (a : ℕ) (v : ℤ) : Type 0 where
@@ -109,7 +110,7 @@ pub record ReleasedAs (x : ℕ) (m : ModuleState) (look : Look) (t : ℕ) (befor
   pub task : invocation.task.0 ≡ t
   pub at : m.base + invocation.s.0 ≡ x
   pub guard : holds invocation.guard look ≡ true
-  pub inputs : job.inputs ≡ narrowed_args (kinds_of before.text.inputs) invocation.args look
+  pub inputs : job.inputs ≡ narrowed_args (kinds_of before.definition.inputs) invocation.args look
 
 -- task t after the releases at x: as it was, or with the job of an invocation that starts
 abbrev pub KeptOrReleased : ℕ → ModuleState → Look → ℕ → TaskState → TaskState → Type 0

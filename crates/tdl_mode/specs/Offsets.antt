@@ -1,6 +1,7 @@
 -- The offsets of a mode: where something may begin or end in its period.
-use Rattle.std.specs.Prelude.{ℕ, ◌==◌, Bool, List, [], ◌∷◌, ◌++◌, map, if◌then◌else◌, nat_lt, min}
+use Rattle.std.specs.Prelude.{ℕ, ◌==◌, Bool, List, [], ◌∷◌, ◌++◌, map, if◌then◌else◌, nat_lt, min, ◌≡◌, ◌≤◌, true}
 use Rattle.std.specs.List.{list_any}
+use Rattle.tdl_base.specs.Lists.{inserted}
 use Rattle.tdl_mode.specs.declared.program.Mode.{Mode}
 
 -- all offsets of a mode: 0, its period, the start and the end of each invocation, each update, each switch
@@ -25,16 +26,17 @@ least_above o (p ∷ ps) best = least_above o ps (if nat_lt o p then min p best 
 abbrev pub next_offset : Mode → ℕ → ℕ
 next_offset mode o = least_above o (offset_list mode) mode.period.0
 
--- o in its place among ascending numbers, once
-abbrev pub inserted : ℕ → List ℕ → List ℕ
-inserted o [] = o ∷ []
-inserted o (p ∷ ps) = if nat_lt o p then o ∷ p ∷ ps else (if o == p then p ∷ ps else p ∷ inserted o ps)
-
 -- the numbers of a list, ascending and each once
 abbrev pub ascending : List ℕ → List ℕ
 ascending [] = []
-ascending (o ∷ os) = inserted o (ascending os)
+ascending (o ∷ os) = if list_any (λ p. p == o) os then ascending os else inserted nat_lt o (ascending os)
 
 -- the offsets of a mode, ascending and distinct
 abbrev pub offsets : Mode → List ℕ
 offsets mode = ascending (offset_list mode)
+
+-- o is the least offset of the mode from d on
+pub record IsNext (mode : Mode) (d o : ℕ) : Type 0 where
+  pub at : is_offset mode o ≡ true
+  pub from : d ≤ o
+  pub least : (p : ℕ) → is_offset mode p ≡ true → d ≤ p → o ≤ p

@@ -23,7 +23,7 @@ job_ends m x job = job.mode == m.mode && ends (invocation_of (invocations_now m)
 
 -- the outputs of the task become the job's result, and the job is no longer active
 abbrev pub ended : TaskState → Job → TaskState
-ended u job = record u { outputs = result_of u.text job.inputs u.outputs; active = None }
+ended u job = record u { outputs = result_of u.definition job.inputs u.outputs; active = None }
 
 -- the task has an active job, and it ends at x
 abbrev pub has_ended : ModuleState → ℕ → TaskState → Bool
@@ -50,7 +50,9 @@ taken_update m x look a = find (λ u. u.actuator == a && (m.base + u.at.0 == x &
 -- the number that actuator a takes at x, or none
 abbrev pub update_value : ModuleState → ℕ → Look → ℕ → Option ℤ
 update_value m x look a =
-    option_map (λ u. narrowed (unwrap_or (option_map (λ p. p.kind) (slice_get m.text.actuators a)) Long) (value_of u.value look)) (taken_update m x look a)
+    option_map
+    (λ u. narrowed (unwrap_or (option_map (λ p. p.kind) (slice_get m.definition.actuators a)) Long)
+    (value_of u.value look)) (taken_update m x look a)
 
 -- updates, actuator by actuator
 abbrev pub phase_two : ℕ → Look → ModuleState → ModuleState
@@ -90,7 +92,7 @@ narrowed_args (k ∷ ks) (e ∷ es) look = narrowed k (value_of e look) ∷ narr
 -- the job becomes active with its arguments, narrowed to the inputs' kinds
 abbrev pub released : ℕ → ℕ → Invocation → Look → TaskState → TaskState
 released mode k i look u =
-    record u { active = Some (record { mode = mode; invocation = k; inputs = narrowed_args (kinds_of u.text.inputs) i.args look }) }
+    record u { active = Some (record { mode = mode; invocation = k; inputs = narrowed_args (kinds_of u.definition.inputs) i.args look }) }
 
 -- the invocations from number k on, in order
 abbrev pub releases : ModuleState → ℕ → Look → ℕ → List Invocation → List TaskState → List TaskState

@@ -1,9 +1,11 @@
 -- The logical state of modules, and what a module may read.
 use Rattle.std.specs.Prelude.{ℕ, zero, suc, ℤ, pos, List, [], ◌++◌, map, length, take, drop, replicate, Option, None, option_map, unwrap_or, slice_get, slice_index_or, if◌then◌else◌, ◌==◌}
+use Rattle.tdl_base.specs.Sensed.{Sensed}
 use Rattle.tdl_base.specs.declared.kinds.Kind.{Kind}
 use Rattle.tdl_base.specs.declared.numbers.PortKey.{PortKey}
 use Rattle.tdl_body.specs.Values.{Look}
-use Rattle.tdl_body.specs.Effects.{Cells, done}
+use Rattle.tdl_base.specs.Cells.{Cells}
+use Rattle.tdl_body.specs.Effects.{effect_of}
 use Rattle.tdl_mode.specs.declared.program.Module.{Module}
 use Rattle.tdl_mode.specs.declared.program.Task.{Task}
 use Rattle.tdl_mode.specs.declared.program.Mode.{Mode}
@@ -18,13 +20,13 @@ pub record Job : Type 0 where
 
 -- a task with its committed outputs, and its active job or none
 pub record TaskState : Type 0 where
-  pub text : Task
+  pub definition : Task
   pub outputs : List ℤ
   pub active : Option Job
 
 -- a module with its mode, the instant at which the present cycle began, its tasks and its actuators
 pub record ModuleState : Type 0 where
-  pub text : Module
+  pub definition : Module
   pub mode : ℕ
   pub base : ℕ
   pub tasks : List TaskState
@@ -33,14 +35,6 @@ pub record ModuleState : Type 0 where
 -- all modules, in order of their numbers
 abbrev pub State : Type 0
 State = List ModuleState
-
--- the number of each sensor of each module at one instant
-abbrev pub Sensed : Type 0
-Sensed = ℕ → ℕ → ℤ
-
--- what is sensed at each instant
-abbrev pub Course : Type 0
-Course = ℕ → Sensed
 
 -- the kinds of ports
 abbrev pub kinds_of : List PortDef → List Kind
@@ -53,7 +47,7 @@ initials_of ports = map (λ p. p.initial) ports
 -- the outputs after a job: the body over the inputs, the outputs before it, and locals that are 0
 unfoldable pub result_of : Task → List ℤ → List ℤ → List ℤ
 result_of task inputs old =
-    take (length task.outputs) (drop (length task.inputs) (done task.body cells).values)
+    take (length task.outputs) (drop (length task.inputs) (effect_of task.body cells).values)
   where
     cells : Cells
     cells = record {
@@ -63,7 +57,7 @@ result_of task inputs old =
 
 -- the mode that a module is in, where it has it
 abbrev pub present : ModuleState → Option Mode
-present m = slice_get m.text.modes m.mode
+present m = slice_get m.definition.modes m.mode
 
 -- the invocation of number k, from 1
 abbrev pub invocation_of : List Invocation → ℕ → Option Invocation
@@ -80,7 +74,8 @@ output_at tasks t o = slice_index_or (unwrap_or (option_map (λ u. u.outputs) (s
 
 -- the outputs of all modules, by key
 abbrev pub outputs_in : State → PortKey → ℤ
-outputs_in state key = unwrap_or (option_map (λ m. output_at m.tasks key.task.0 key.output) (slice_get state key.module.0)) (pos 0)
+outputs_in state key =
+    unwrap_or (option_map (λ m. output_at m.tasks key.task.0 key.output) (slice_get state key.module.0)) (pos 0)
 
 -- what module k may read: its sensors, the outputs of its own tasks, and those of other modules as `seen`
 abbrev pub look_of : ℕ → List TaskState → Sensed → (PortKey → ℤ) → Look

@@ -57,10 +57,10 @@ AllReadable program k m (e ∷ es) = Readable program k m e × AllReadable progr
 pub record WellInvocation (program : Program) (k : ℕ) (m : Module) (mode : Mode) (i : Invocation) : Type 0 where
   pub lasts : i.s.0 < i.e.0
   pub ends : i.e.0 ≤ mode.period.0
-  pub text : Task
-  pub task : slice_get m.tasks i.task.0 ≡ Some text
-  pub inputs : length i.args ≡ length text.inputs
-  pub fits : i.s.0 + text.worst.0 ≤ i.e.0
+  pub definition : Task
+  pub task : slice_get m.tasks i.task.0 ≡ Some definition
+  pub inputs : length i.args ≡ length definition.inputs
+  pub fits : i.s.0 + definition.worst.0 ≤ i.e.0
   pub guard : GuardReadable program k m i.guard
   pub args : AllReadable program k m i.args
 

@@ -10,7 +10,8 @@ ghost use Rattle.tdl_mode.specs.Instants.{alone};
 ghost use Rattle.tdl_mode.specs.Laws.{Outputs, IsModuleByModule, AtNoOffset, AgreeOnRead, StaysOrTurns};
 ghost use Rattle.tdl_mode.specs.Laws.{EndsAt, UpdatesTo, SwitchesTo, KeptOrReleased};
 ghost use Rattle.tdl_mode.specs.Phases.{has_ended, job_ends, update_value, switch_target, phase_four};
-ghost use Rattle.tdl_mode.specs.States.{Job, TaskState, ModuleState, State, Sensed, present};
+ghost use Rattle.tdl_base.specs.Sensed.{Sensed};
+ghost use Rattle.tdl_mode.specs.States.{Job, TaskState, ModuleState, State, present};
 ghost use Rattle.tdl_mode.specs.WellFormed.{WellModule};
 
 /// An instant of all modules is, module by module, that of the module alone.
@@ -31,7 +32,8 @@ pub fn between_offsets()
 /// Of the outputs of other modules only those count that the module may read.
 pub fn only_what_is_read()
     ensures same { (program : Program) (k x : ℕ) (m : Module) (sensed : Sensed)
-        (seen seen' : Outputs) (state : ModuleState) → WellModule program k m → state.text ≡ m →
+        (seen seen' : Outputs) (state : ModuleState) → WellModule program k m →
+        state.definition ≡ m →
         AgreeOnRead program k m seen seen' →
         alone k x sensed seen state ≡ alone k x sensed seen' state }
 {}
@@ -45,7 +47,7 @@ pub fn cycles()
         (mode : Mode) → present m ≡ Some mode → m.base + mode.period.0 ≡ x →
         (alone k x sensed seen m).base ≡ x }
     ensures divided { (k x d : ℕ) (sensed : Sensed) (seen : Outputs) (m : ModuleState) →
-        DividesCycles d m.text → d ∣ m.base → d ∣ (alone k x sensed seen m).base }
+        DividesCycles d m.definition → d ∣ m.base → d ∣ (alone k x sensed seen m).base }
 {}
 
 /// What ends, is updated, switches or is released at an instant stands at it in the text of the

@@ -1,13 +1,13 @@
 use tdl_base::{Kind, Listed, ModeId, ModuleId, TaskId, Text, Us};
 use tdl_body::{Body, Expr};
 
-/// The modules of a program, numbered from 0 in order of the sources.
+/// The modules of a program, each at its number.
 #[derive(Debug, Drop)]
 pub struct Program {
     pub modules: Listed<Module>,
 }
 
-/// A module, the unit of distribution. Its parts are numbered from 0 in order of declaration.
+/// A module, which is placed as a whole. A part's number is its place in the text, from 0.
 #[derive(Debug, Drop)]
 pub struct Module {
     pub name: Text,

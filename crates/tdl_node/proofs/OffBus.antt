@@ -6,7 +6,8 @@ use Rattle.tdl_verify.specs.States.{HostNow, Part}
 use Rattle.tdl_verify.specs.Bus.{starts_at, start_of, starts}
 use Rattle.tdl_node.specs.Machines.{IsPartOffBus, IsOffBus}
 
-no_window_starts : (x : ℕ) (s : HostNow) (windows : List ImageWindow) → All (λ (w : ImageWindow). w.bus ≡ false) windows →
+no_window_starts : (x : ℕ) (s : HostNow) (windows : List ImageWindow) →
+    All (λ (w : ImageWindow). w.bus ≡ false) windows →
     filter (starts_at x s) windows ≡ []
 no_window_starts x s [] off = refl
 no_window_starts x s (w ∷ windows) off =
@@ -21,4 +22,7 @@ part_starts x (Part.Outside p s) off = refl
 pub nothing_starts : (x : ℕ) (parts : List Part) → IsOffBus parts → flat_map (starts x) parts ≡ []
 nothing_starts x [] off = refl
 nothing_starts x (p ∷ parts) off =
-    rw (part_starts x p (All-head IsPartOffBus p parts off), nothing_starts x parts (All-tail IsPartOffBus p parts off)) refl
+    rw (
+      part_starts x p (All-head IsPartOffBus p parts off),
+      nothing_starts x parts (All-tail IsPartOffBus p parts off),
+    ) refl

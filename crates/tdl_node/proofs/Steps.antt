@@ -4,29 +4,35 @@ use Rattle.std.proofs.lemmas.List.Elements.{filter-append}
 use Rattle.tdl_trace.specs.declared.why.Why.{Why}
 use Rattle.tdl_trace.specs.declared.why.Why.TheVariants as why
 use Rattle.tdl_trace.specs.Shown.{Shown}
-use Rattle.tdl_verify.specs.States.{Part, Times, Sensed, Stretch, NodeNow}
+use Rattle.tdl_base.specs.Sensed.{Sensed}
+use Rattle.tdl_verify.specs.States.{Part, Times, Stretch, NodeNow}
 use Rattle.tdl_verify.specs.Turns.{Spot, Turned, turn}
-use Rattle.tdl_verify.specs.Micros.{live, run_part, ran_rows, is_ended, closed, opened, head_of, stretches}
+use Rattle.tdl_base.specs.Lists.{first_of}
+use Rattle.tdl_verify.proofs.RunLemmas.{ran_rows-plain}
+use Rattle.tdl_verify.specs.Micros.{live, run_part, ran_rows, is_ended, closed, opened, stretches}
 use Rattle.tdl_verify.specs.Bus.{starts}
 use Rattle.tdl_verify.specs.Runs.{System, Run, Now, instant, next_instant, no_loss, is_plain, dead}
 use Rattle.tdl_node.specs.Machines.{plain_turned, IsOffBus}
-use Rattle.tdl_node.specs.Steps.{turned_at, stepped}
+use Rattle.tdl_node.specs.Steps.{turned_at, micro_and_turn}
 use Rattle.tdl_node.proofs.OffBus.{nothing_starts}
 
 -- a system of one node with nothing on the bus
 abbrev pub alone : ℕ → List Part → Option Stretch → System
-alone declared parts running = record { nodes = record { declared = declared; parts = parts; running = running } ∷ []; flight = None; sent = 0 }
+alone declared parts running =
+    record { nodes = record { declared = declared; parts = parts; running = running } ∷ []; flight = None; sent = 0 }
 
 -- ---- an instant
 
-instant_finished : (x d : ℕ) (parts later : List Part) (running : Option Stretch) (ran rows : List Shown) (sensed : Sensed) (times : Times) →
+instant_finished : (x d : ℕ) (parts later : List Part) (running : Option Stretch) (ran rows : List Shown)
+    (sensed : Sensed) (times : Times) →
     turn d x 0 sensed times Spot.Between parts [] ≡ Turned.Finished later rows → flat_map (starts x) later ≡ [] →
     instant x sensed times no_loss ran (alone d parts running)
     ≡ record { rows = ran ++ (rows ++ []) ++ []; sendings = []; now = Now.Alive (alone d later running) }
 unfolding instant
 instant_finished x d parts later running ran rows sensed times e g = rw (e, g) refl
 
-instant_trapped : (x d : ℕ) (parts : List Part) (running : Option Stretch) (ran : List Shown) (sensed : Sensed) (times : Times) (reason : Why) →
+instant_trapped : (x d : ℕ) (parts : List Part) (running : Option Stretch) (ran : List Shown) (sensed : Sensed)
+    (times : Times) (reason : Why) →
     turn d x 0 sensed times Spot.Between parts [] ≡ Turned.Trapped reason →
     instant x sensed times no_loss ran (alone d parts running) ≡ dead 0 x reason
 unfolding instant
@@ -37,7 +43,12 @@ instant_trapped x d parts running ran sensed times reason e = rw e refl
 -- the node of some parts after the microsecond x
 abbrev walked_node : ℕ → ℕ → List Part → Option Stretch → NodeNow
 walked_node x d parts running =
-    record { declared = d; parts = map (run_part x) parts; running = opened running (head_of (flat_map (stretches x) parts)) }
+    record {
+      declared = d;
+      parts = map (run_part x) parts;
+      running = opened running
+          (first_of (flat_map (stretches x) parts));
+    }
 
 micro_walked : (h x d : ℕ) (parts : List Part) (running : Option Stretch) (sensed : Sensed) (times : Times) →
     nat_lt 1 (length (flat_map (live x) parts)) ≡ false →
@@ -54,21 +65,8 @@ unfolding next_instant
 micro_clashed h x d parts running sensed times e = rw e refl
 
 -- the rows of ended stretches are not plain
-ran_plain : (h x : ℕ) (n : NodeNow) → filter is_plain (ran_rows h x 0 n) ≡ []
-ran_plain h x n = by_running n.running
-  where
-    by_end : (r : Stretch) (b : Bool) → is_ended h x n.parts r ≡ b →
-        filter is_plain (if is_ended h x n.parts r then Shown.Ran x 0 r.owner r.task r.from ∷ [] else []) ≡ []
-    by_end r true e = rw e refl
-    by_end r false e = rw e refl
-
-    by_running : (running : Option Stretch) →
-        filter is_plain (unwrap_or (option_map (λ (r : Stretch). if is_ended h x n.parts r then Shown.Ran x 0 r.owner r.task r.from ∷ [] else []) running) []) ≡ []
-    by_running None = refl
-    by_running (Some r) = by_end r (is_ended h x n.parts r) refl
-
 ran_none : (h x : ℕ) (n : NodeNow) → filter is_plain (ran_rows h x 0 n ++ []) ≡ []
-ran_none h x n = ap (filter is_plain) (append-nil (ran_rows h x 0 n)) ∙ ran_plain h x n
+ran_none h x n = ap (filter is_plain) (append-nil (ran_rows h x 0 n)) ∙ ran_rows-plain h x 0 n
 
 -- ---- turns with and without their log lines
 
@@ -93,7 +91,8 @@ is_finished (Turned.Trapped reason) = false
 not_both : {P : Type 0} → false ≡ true → P
 not_both e = absurd (cc e)
 
-comes : (t : Turned) (parts : List Part) (plain : List Shown) → plain_turned t ≡ Turned.Finished parts plain → Comes t parts plain
+comes : (t : Turned) (parts : List Part) (plain : List Shown) → plain_turned t ≡ Turned.Finished parts plain →
+    Comes t parts plain
 comes (Turned.Finished ps rows) parts plain e =
     record { rows = rows; is = ap (λ (p : List Part). Turned.Finished p rows) (ap parts_of e); shown = ap rows_of e }
 comes (Turned.Trapped reason) parts plain e = not_both (ap is_finished e)
@@ -109,7 +108,7 @@ pub record Stands (d : ℕ) (parts : List Part) (r : Run) : Type 0 where
   pub running : Option Stretch
   pub now : r.now ≡ Now.Alive (alone d parts running)
 
--- a run that came to these parts, by these plain rows behind those before
+-- a run that came to these parts, by these plain rows after those before
 pub record Went (d : ℕ) (parts : List Part) (before more : List Shown) (r : Run) : Type 0 where
   pub stands : Stands d parts r
   pub rows : filter is_plain r.rows ≡ before ++ more
@@ -122,7 +121,8 @@ rows_on ran turned T g h =
     ∙ filter-append is_plain ran turned
     ∙ ap₂ (λ (a b : List Shown). a ++ b) g h
 
-instant_comes : (x d : ℕ) (parts later : List Part) (running : Option Stretch) (ran rows : List Shown) (sensed : Sensed) (times : Times) →
+instant_comes : (x d : ℕ) (parts later : List Part) (running : Option Stretch) (ran rows : List Shown)
+    (sensed : Sensed) (times : Times) →
     IsOffBus later → filter is_plain ran ≡ [] → Comes (turn d x 0 sensed times Spot.Between parts []) later rows →
     Went d later [] rows (instant x sensed times no_loss ran (alone d parts running))
 instant_comes x d parts later running ran rows sensed times off none c =
@@ -130,22 +130,27 @@ instant_comes x d parts later running ran rows sensed times off none c =
     (record { stands = record { running = running; now = refl }; rows = rows_on ran c.rows rows none c.shown })
 
 -- an instant whose turn is over
-pub instant_goes : (x d : ℕ) (parts later : List Part) (running : Option Stretch) (ran rows : List Shown) (sensed : Sensed) (times : Times) →
+pub instant_goes : (x d : ℕ) (parts later : List Part) (running : Option Stretch) (ran rows : List Shown)
+    (sensed : Sensed) (times : Times) →
     IsOffBus later → filter is_plain ran ≡ [] → turned_at d sensed times x parts ≡ Turned.Finished later rows →
     Went d later [] rows (instant x sensed times no_loss ran (alone d parts running))
 instant_goes x d parts later running ran rows sensed times off none e =
-    instant_comes x d parts later running ran rows sensed times off none (comes (turn d x 0 sensed times Spot.Between parts []) later rows e)
+    instant_comes x d parts later running ran rows sensed times off none
+    (comes (turn d x 0 sensed times Spot.Between parts []) later rows e)
 
 -- an instant whose turn traps
-pub instant_traps : (x d : ℕ) (parts : List Part) (running : Option Stretch) (ran : List Shown) (sensed : Sensed) (times : Times) (reason : Why) →
+pub instant_traps : (x d : ℕ) (parts : List Part) (running : Option Stretch) (ran : List Shown) (sensed : Sensed)
+    (times : Times) (reason : Why) →
     turned_at d sensed times x parts ≡ Turned.Trapped reason →
     instant x sensed times no_loss ran (alone d parts running) ≡ dead 0 x reason
 instant_traps x d parts running ran sensed times reason e =
-    instant_trapped x d parts running ran sensed times reason (traps (turn d x 0 sensed times Spot.Between parts []) reason e)
+    instant_trapped x d parts running ran sensed times reason
+    (traps (turn d x 0 sensed times Spot.Between parts []) reason e)
 
 -- a microsecond and an instant whose turn is over
-pub next_goes : (h x d : ℕ) (parts later : List Part) (running : Option Stretch) (rows : List Shown) (sensed : Sensed) (times : Times) →
-    IsOffBus later → stepped d sensed times x parts ≡ Turned.Finished later rows →
+pub next_goes : (h x d : ℕ) (parts later : List Part) (running : Option Stretch) (rows : List Shown) (sensed : Sensed)
+    (times : Times) →
+    IsOffBus later → micro_and_turn d sensed times x parts ≡ Turned.Finished later rows →
     Went d later [] rows (next_instant h x sensed times no_loss (alone d parts running))
 next_goes h x d parts later running rows sensed times off e = by_test (nat_lt 1 (length (flat_map (live x) parts))) refl
   where
@@ -158,8 +163,9 @@ next_goes h x d parts later running rows sensed times off e = by_test (nat_lt 1 
         (ran_none h (suc x) (walked_node x d parts running)) (rw g at e))
 
 -- a microsecond and an instant that trap
-pub next_traps : (h x d : ℕ) (parts : List Part) (running : Option Stretch) (sensed : Sensed) (times : Times) (reason : Why) →
-    stepped d sensed times x parts ≡ Turned.Trapped reason →
+pub next_traps : (h x d : ℕ) (parts : List Part) (running : Option Stretch) (sensed : Sensed) (times : Times)
+    (reason : Why) →
+    micro_and_turn d sensed times x parts ≡ Turned.Trapped reason →
     next_instant h x sensed times no_loss (alone d parts running) ≡ dead 0 (suc x) reason
 next_traps h x d parts running sensed times reason e = by_test (nat_lt 1 (length (flat_map (live x) parts))) refl
   where

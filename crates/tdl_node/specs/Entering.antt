@@ -6,8 +6,8 @@ use Rattle.tdl_image.specs.declared.bundle.Bundle.{Bundle}
 use Rattle.tdl_verify.specs.States.{Part, Trigger}
 
 -- its tables
-abbrev pub entering : Hosted
-entering = record {
+abbrev pub entering_host : Hosted
+entering_host = record {
   number = record { 0 = 0 };
   name = codes "P";
   sensors = [];
@@ -25,21 +25,22 @@ entering = record {
 
 -- the bundle of one node that hosts it
 abbrev pub entering_bundle : Bundle
-entering_bundle = record { images = record { node = codes "n1"; declared = 2; hosted = entering ∷ []; stubs = [] } ∷ [] }
+entering_bundle =
+    record { images = record { node = codes "n1"; declared = 2; hosted = entering_host ∷ []; stubs = [] } ∷ [] }
 
 -- its mode: none before it is entered
 abbrev pub mode_once : Bool → Option ℕ
 mode_once false = None
 mode_once true = Some 0
 
--- its trigger: at instant 0 before the mode is entered, and none behind that
+-- its trigger: at instant 0 before the mode is entered, and none after that
 abbrev pub trigger_once : Bool → Option Trigger
 trigger_once false = Some (record { at = 0; block = 0 })
 trigger_once true = None
 
--- the module before and behind the entry of its mode
+-- the module before and after the entry of its mode
 abbrev pub entering_parts : Bool → List Part
-entering_parts has_entered = Part.Host entering (record {
+entering_parts has_entered = Part.Host entering_host (record {
   mode = mode_once has_entered;
   base = 0;
   trigger = trigger_once has_entered;
@@ -48,6 +49,6 @@ entering_parts has_entered = Part.Host entering (record {
 }) ∷ []
 
 -- before the mode is entered the next instant is 0
-abbrev pub IsNext : Bool → ℕ → Type 0
-IsNext false at = at ≡ 0
-IsNext true at = Unit {0}
+abbrev pub IsFirstDue : Bool → ℕ → Type 0
+IsFirstDue false at = at ≡ 0
+IsFirstDue true at = Unit {0}

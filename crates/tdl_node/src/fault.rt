@@ -2,8 +2,7 @@ ghost use Rattle.std.specs.Prelude.{◌≡◌};
 ghost use Rattle.tdl_node.specs.Steps.{fault_of, printing_fault};
 
 use crate::Stop;
-use tdl_trace::Why;
-use tdl_walk::RunFault;
+use tdl_trace::{PrintFault, Why};
 use thiserror::Error;
 
 /// Why a run was not printed whole.
@@ -28,13 +27,13 @@ impl From<Stop> for NodeFault {
     }
 }
 
-impl From<RunFault> for NodeFault {
+impl From<PrintFault> for NodeFault {
     ghost from_gives = { λ refused fault. fault ≡ printing_fault refused };
 
-    fn from(refused: RunFault) -> NodeFault {
+    fn from(refused: PrintFault) -> NodeFault {
         match refused {
-            RunFault::WriteFailed => NodeFault::WriteFailed,
-            RunFault::NoMemory => NodeFault::NoMemory,
+            PrintFault::WriteFailed => NodeFault::WriteFailed,
+            PrintFault::NoMemory => NodeFault::NoMemory,
         }
     }
 }

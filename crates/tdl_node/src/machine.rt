@@ -1,4 +1,6 @@
 ghost use Rattle.std.specs.Prelude.{◌≡◌, ◌≤◌, ◌<◌, ℕ, suc, List, [], Bool, true, false, length, flat_map, map, nat_lt, OnOk, IfErr};
+ghost use Rattle.tdl_base.specs.declared.numbers.TheConstants.{FIRST_NODE};
+ghost use Rattle.tdl_base.specs.declared.limits.TheConstants.{HORIZON_US};
 ghost use Rattle.tdl_scen.specs.Scenario.{course_of};
 ghost use Rattle.tdl_verify.specs.States.{Part, Times};
 ghost use Rattle.tdl_verify.specs.Turns.{Spot, Turned, turn};
@@ -41,7 +43,7 @@ pub trait Machine {
     /// How long its jobs take.
     ghost times: { Self → Times };
 
-    /// Its numbers have room for all that it does from this instant on, up to 1,000,000 us.
+    /// Its numbers have room for all that it does from this instant on, up to the greatest horizon.
     ghost ready: { Self → ℕ → Type 0 };
 
     /// The E-machine's turn at an instant in microseconds: runs the due blocks and puts the rows
@@ -54,22 +56,30 @@ pub trait Machine {
         rows: &mut Rows,
     ) -> Result<(), Stop>
         requires empty { rows.old ≡ [] }
-        requires instant { at ≤ 1000000 }
+        requires instant { at ≤ HORIZON_US }
         requires ready { ready self.old at }
-        ensures ok { OnOk result (plain_turned (turn (declared self.old) at 0 (course_of senses.now at) (times self.old) Spot.Between (parts self.old) []) ≡ Turned.Finished (parts self.new) rows.new) }
-        ensures trapped { IfErr result (IsTrap (λ reason. turn (declared self.old) at 0 (course_of senses.now at) (times self.old) Spot.Between (parts self.old) [] ≡ Turned.Trapped reason)) }
+        ensures ok { OnOk result
+            (plain_turned
+            (turn (declared self.old) at FIRST_NODE.0 (course_of senses.now at) (times self.old)
+            Spot.Between (parts self.old) []) ≡ Turned.Finished (parts self.new) rows.new) }
+        ensures trapped { IfErr result
+            (IsTrap (λ reason. turn (declared self.old) at FIRST_NODE.0 (course_of senses.now at)
+            (times self.old) Spot.Between (parts self.old) [] ≡ Turned.Trapped reason)) }
         ensures later { OnOk result (ready self.new (suc at)) }
         ensures same_count { declared self.new ≡ declared self.old }
         ensures same_times { times self.new ≡ times self.old }
         ensures off_bus { OnOk result (IsOffBus (parts self.old) → IsOffBus (parts self.new)) };
 
-    /// The microsecond of the processor that begins at an instant: the job of the live window works.
+    /// The microsecond of the processor that begins at an instant: the job of the live window
+    /// works.
     fn micro(&mut self, alloc: Global, at: u64) -> Result<(), Stop>
-        requires instant { at ≤ 1000000 }
+        requires instant { at ≤ HORIZON_US }
         requires ready { ready self.old (suc at) }
-        ensures apart { OnOk result (nat_lt 1 (length (flat_map (live at) (parts self.old))) ≡ false) }
+        ensures apart { OnOk result
+            (nat_lt 1 (length (flat_map (live at) (parts self.old))) ≡ false) }
         ensures ok { OnOk result (parts self.new ≡ map (run_part at) (parts self.old)) }
-        ensures trapped { IfErr result (IsTrapOf why.Clash (nat_lt 1 (length (flat_map (live at) (parts self.old))) ≡ true)) }
+        ensures trapped { IfErr result
+            (IsTrapOf why.Clash (nat_lt 1 (length (flat_map (live at) (parts self.old))) ≡ true)) }
         ensures later { OnOk result (ready self.new (suc at)) }
         ensures same_count { declared self.new ≡ declared self.old }
         ensures same_times { times self.new ≡ times self.old }

@@ -1,11 +1,11 @@
 ghost use Rattle.std.specs.Prelude.{◌≡◌, ◌∷◌, [], IfOk};
-ghost use Rattle.tdl_node.specs.Entering.{entering, entering_bundle};
+ghost use Rattle.tdl_node.specs.Entering.{entering_host, entering_bundle};
 
 use crate::{Machine, NodeFault, Stop, run};
 use std::alloc::Global;
 use std::process::Abort;
 use std::test::Fail;
-use tdl_base::{Listed, ModeId, ModuleId, NoMemory, NodeId, Text, Us};
+use tdl_base::{FIRST_NODE, Listed, ModeId, ModuleId, NoMemory, Text, Us};
 use tdl_ecode::{Block, EInstr};
 use tdl_image::{Bundle, Hosted, Image};
 use tdl_io::MemSink;
@@ -19,7 +19,7 @@ struct Entering {
 }
 
 impl Machine for Entering {
-    ghost use Rattle.tdl_node.specs.Entering.{entering_parts, IsNext};
+    ghost use Rattle.tdl_node.specs.Entering.{entering_parts, IsFirstDue};
 
     ghost declared = { λ machine. 2 };
 
@@ -27,7 +27,7 @@ impl Machine for Entering {
 
     ghost times = { λ machine owner task job. 1 };
 
-    ghost ready = { λ machine at. IsNext machine.has_entered at };
+    ghost ready = { λ machine at. IsFirstDue machine.has_entered at };
 
     fn turn(
         &mut self,
@@ -41,7 +41,7 @@ impl Machine for Entering {
         }
         let row = Row::Mode {
             at: Us(at),
-            node: NodeId(0),
+            node: FIRST_NODE,
             module: ModuleId(0),
             mode: ModeId(0),
         };
@@ -60,7 +60,7 @@ impl Machine for Entering {
 }
 
 fn hosted(alloc: Global) -> Result<Hosted, NoMemory>
-    ensures { IfOk result (λ hosted. hosted ≡ entering) }
+    ensures { IfOk result (λ hosted. hosted ≡ entering_host) }
 {
     let code = Vec::from_slice(alloc, &[EInstr::Mode(0), EInstr::Return])?;
     let block = Block {
@@ -101,7 +101,7 @@ fn bundle(alloc: Global) -> Result<Bundle, NoMemory>
 fn names(alloc: Global) -> Result<Names, NoMemory> {
     let names = ModuleNames {
         number: ModuleId(0),
-        node: NodeId(0),
+        node: FIRST_NODE,
         name: Text::from_str(alloc, "P")?,
         sensors: Listed::new(alloc),
         actuators: Listed::new(alloc),

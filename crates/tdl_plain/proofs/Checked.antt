@@ -52,7 +52,12 @@ lawful_from f h =
 -- what must be so of the names that differ
 lawful_apart : (f : Form) → IsPlainForm f → is_apart f ≡ true
 lawful_apart f h =
-    rw (told f.sensor f.task h.sensor_is_no_task, told f.sensor f.mode h.sensor_is_no_mode, told f.task f.mode h.task_is_no_mode, told f.input f.output h.input_is_no_output) refl
+    rw (
+      told f.sensor f.task h.sensor_is_no_task,
+      told f.sensor f.mode h.sensor_is_no_mode,
+      told f.task f.mode h.task_is_no_mode,
+      told f.input f.output h.input_is_no_output,
+    ) refl
 
 -- and of the numbers
 lawful_range : (f : Form) → IsPlainForm f → in_range (numbers_in f) ≡ true
@@ -67,4 +72,5 @@ lawful_range f h = range_from (numbers_in f) (record {
 -- a lawful form passes
 pub lawful_passes : (f : Form) → IsPlainForm f → is_lawful f ≡ true
 lawful_passes f h =
-    rw (h.module_name, h.sensor_name, h.task_name, h.input_name, h.output_name, h.mode_name) (and_from (is_apart f) (in_range (numbers_in f)) (lawful_apart f h) (lawful_range f h))
+    rw (h.module_name, h.sensor_name, h.task_name, h.input_name, h.output_name, h.mode_name)
+    (and_from (is_apart f) (in_range (numbers_in f)) (lawful_apart f h) (lawful_range f h))

@@ -25,7 +25,8 @@ fronts (x ∷ xs) ys (z ∷ zs) ws e =
     ]
 
 -- the first element passes and is counted, or it ends the run
-pub prefix_cases : (p : ℕ → Bool) (x : ℕ) (xs : List ℕ) → ((p x ≡ true) × (prefix_len p (x ∷ xs) ≡ suc (prefix_len p xs))) ⊎ ((p x ≡ false) × (prefix_len p (x ∷ xs) ≡ 0))
+pub prefix_cases : (p : ℕ → Bool) (x : ℕ) (xs : List ℕ) →
+    ((p x ≡ true) × (prefix_len p (x ∷ xs) ≡ suc (prefix_len p xs))) ⊎ ((p x ≡ false) × (prefix_len p (x ∷ xs) ≡ 0))
 prefix_cases p x xs =
     elim (cases_Bool (p x)) [
       | inl t ↦ let more : 1 + prefix_len p xs ≡ suc (prefix_len p xs) = omega arith in inl (t, rw t more)
@@ -41,22 +42,24 @@ run_passes p (x ∷ xs) =
       | inr h ↦ rw h.1 refl
     ]
 
--- nothing that stands behind the run goes on with it
-pub run_stops : (p : ℕ → Bool) (xs more behind : List ℕ) → drop (prefix_len p xs) xs ≡ more ++ behind → list_all p more ≡ true → more ≡ []
-run_stops p xs [] behind e h = refl
-run_stops p [] (m ∷ ms) behind e h = absurd cc
-run_stops p (x ∷ xs) (m ∷ ms) behind e h =
+-- nothing that stands after the run goes on with it
+pub run_stops : (p : ℕ → Bool) (xs more after : List ℕ) → drop (prefix_len p xs) xs ≡ more ++ after →
+    list_all p more ≡ true → more ≡ []
+run_stops p xs [] after e h = refl
+run_stops p [] (m ∷ ms) after e h = absurd cc
+run_stops p (x ∷ xs) (m ∷ ms) after e h =
     elim (prefix_cases p x xs) [
-      | inl c ↦ run_stops p xs (m ∷ ms) behind (rw c.1 at e) h
+      | inl c ↦ run_stops p xs (m ∷ ms) after (rw c.1 at e) h
       | inr c ↦
-          let begun : x ∷ xs ≡ m ∷ (ms ++ behind) = rw c.1 at e in
+          let begun : x ∷ xs ≡ m ∷ (ms ++ after) = rw c.1 at e in
           let same : x ≡ m = cc in
           let passes : p m ≡ true = (and_parts (p m) (list_all p ms) h).0 in
           absurd (cc (ap p same, passes, c.0))
     ]
 
 -- what holds of each word of a list holds of one of them
-pub among : (holds : List ℕ → Bool) (words : List (List ℕ)) (t : List ℕ) → list_all holds words ≡ true → list_any (λ (w : List ℕ). bytes_eq w t) words ≡ true → holds t ≡ true
+pub among : (holds : List ℕ → Bool) (words : List (List ℕ)) (t : List ℕ) → list_all holds words ≡ true →
+    list_any (λ (w : List ℕ). bytes_eq w t) words ≡ true → holds t ≡ true
 among holds [] t all any = absurd cc
 among holds (w ∷ ws) t all any =
     let parts = and_parts (holds w) (list_all holds ws) all in
@@ -83,16 +86,17 @@ sign_apart t h = among begins_apart signs t refl h
 -- a lexeme that no longer one begins with, in front of these bytes
 pub record IsLongest (t rest : List ℕ) : Type 0 where
   pub lexeme : is_lexeme t ≡ true
-  pub longest : (more behind : List ℕ) → rest ≡ more ++ behind → is_lexeme (t ++ more) ≡ true → more ≡ []
+  pub longest : (more after : List ℕ) → rest ≡ more ++ after → is_lexeme (t ++ more) ≡ true → more ≡ []
 
 -- a token is a lexeme
 pub token_lexeme : (t : List ℕ) → is_token t ≡ true → is_lexeme t ≡ true
 token_lexeme t h =
     elim (or_cases (is_identifier t || is_number t) (is_sign t) h) [
-      | inl shorter ↦ or_left (is_word t || is_number t) (is_sign t) (elim (or_cases (is_identifier t) (is_number t) shorter) [
-        | inl name ↦ or_left (is_word t) (is_number t) (and_parts (is_word t) (nat_le (length t) 64) name).0
-        | inr number ↦ or_right (is_word t) (is_number t) number
-      ])
+      | inl shorter ↦ or_left (is_word t || is_number t) (is_sign t)
+          (elim (or_cases (is_identifier t) (is_number t) shorter) [
+            | inl name ↦ or_left (is_word t) (is_number t) (and_parts (is_word t) (nat_le (length t) 64) name).0
+            | inr number ↦ or_right (is_word t) (is_number t) number
+          ])
       | inr sign ↦ or_right (is_word t || is_number t) (is_sign t) sign
     ]
 
@@ -101,7 +105,8 @@ pub first_longest : (t rest : List ℕ) → IsFirst t rest → IsLongest t rest
 first_longest t rest first = record { lexeme = token_lexeme t first.token; longest = first.longest }
 
 -- there is one longest lexeme at most
-pub longest_unique : (t rest u other : List ℕ) → IsLongest t rest → IsLongest u other → t ++ rest ≡ u ++ other → (t ≡ u) × (rest ≡ other)
+pub longest_unique : (t rest u other : List ℕ) → IsLongest t rest → IsLongest u other → t ++ rest ≡ u ++ other →
+    (t ≡ u) × (rest ≡ other)
 longest_unique t rest u other x y e =
     elim (fronts t rest u other e) [
       | inl m ↦
@@ -134,27 +139,32 @@ name_no_sign c cs name =
     false_from_ne_true (is_sign (c ∷ cs)) (λ sign.
     let apart = rw (name_no_blank c name, name) at (sign_apart (c ∷ cs) sign) in false≢true apart)
 
--- behind a letter a lexeme has bytes of an identifier alone
+-- after a letter a lexeme has bytes of an identifier alone
 pub letter_lexeme : (c : ℕ) → is_letter c ≡ true → (cs : List ℕ) → is_lexeme (c ∷ cs) ≡ list_all is_name_byte cs
 letter_lexeme c letter cs =
-    rw (letter, letter_no_digit c letter, name_no_sign c cs (letter_name c letter)) (or-false (list_all is_name_byte cs || false) ∙ or-false (list_all is_name_byte cs))
+    rw (letter, letter_no_digit c letter, name_no_sign c cs (letter_name c letter))
+    (or-false (list_all is_name_byte cs || false) ∙ or-false (list_all is_name_byte cs))
 
--- behind a digit a lexeme has digits alone
+-- after a digit a lexeme has digits alone
 pub digit_lexeme : (c : ℕ) → is_digit c ≡ true → (cs : List ℕ) → is_lexeme (c ∷ cs) ≡ list_all is_digit cs
 digit_lexeme c digit cs =
-    let no_letter : is_letter c ≡ false = false_from_ne_true (is_letter c) (λ letter. false≢true (sym (letter_no_digit c letter) ∙ digit)) in
+    let no_letter : is_letter c ≡ false =
+    false_from_ne_true (is_letter c) (λ letter. false≢true (sym (letter_no_digit c letter) ∙ digit)) in
     rw (no_letter, digit, name_no_sign c cs (digit_name c digit)) (or-false (list_all is_digit cs))
 
 -- what begins with neither is a lexeme where it is a sign
-pub other_lexeme : (c : ℕ) → is_letter c ≡ false → is_digit c ≡ false → (cs : List ℕ) → is_lexeme (c ∷ cs) ≡ is_sign (c ∷ cs)
+pub other_lexeme : (c : ℕ) → is_letter c ≡ false → is_digit c ≡ false → (cs : List ℕ) →
+    is_lexeme (c ∷ cs) ≡ is_sign (c ∷ cs)
 other_lexeme c no_letter no_digit cs = rw (no_letter, no_digit) refl
 
--- the run behind the first byte makes a lexeme, the longest there, where just that makes a lexeme longer
-pub run_longest : (p : ℕ → Bool) (c : ℕ) (cs : List ℕ) → ((xs : List ℕ) → is_lexeme (c ∷ xs) ≡ list_all p xs) → IsLongest (c ∷ take (prefix_len p cs) cs) (drop (prefix_len p cs) cs)
+-- the run after the first byte makes a lexeme, the longest there, where just that makes a lexeme longer
+pub run_longest : (p : ℕ → Bool) (c : ℕ) (cs : List ℕ) → ((xs : List ℕ) → is_lexeme (c ∷ xs) ≡ list_all p xs) →
+    IsLongest (c ∷ take (prefix_len p cs) cs) (drop (prefix_len p cs) cs)
 run_longest p c cs lexeme = record {
   lexeme = lexeme (take (prefix_len p cs) cs) ∙ run_passes p cs;
-  longest = λ more behind e h.
+  longest = λ more after e h.
       let run : List ℕ = take (prefix_len p cs) cs in
       let passes : list_all p (run ++ more) ≡ true = sym (lexeme (run ++ more)) ∙ h in
-      run_stops p cs more behind e (and_parts (list_all p run) (list_all p more) (sym (list_all-append p run more) ∙ passes)).1;
+      run_stops p cs more after e
+      (and_parts (list_all p run) (list_all p more) (sym (list_all-append p run more) ∙ passes)).1;
 }

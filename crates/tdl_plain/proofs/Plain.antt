@@ -21,7 +21,8 @@ differ xs ys apart e = false≢true (sym (not-true (bytes_eq xs ys) apart) ∙ (
 
 -- and the test tells texts apart that differ
 pub told : (xs ys : List ℕ) → xs ≢ ys → not (bytes_eq xs ys) ≡ true
-told xs ys ne = not_from_false (bytes_eq xs ys) (false_from_ne_true (bytes_eq xs ys) (λ same. ne ((bytes_eq-Decides xs ys).0 same)))
+told xs ys ne =
+    not_from_false (bytes_eq xs ys) (false_from_ne_true (bytes_eq xs ys) (λ same. ne ((bytes_eq-Decides xs ys).0 same)))
 
 -- what `are_names` tests
 pub record SixNames (p : Parts) : Type 0 where
@@ -46,11 +47,14 @@ six_names p h =
     let three = and_parts (m && s && t) a four.0 in
     let two = and_parts (m && s) t three.0 in
     let one = and_parts m s two.0 in
-    record { module_name = one.0; sensor_name = one.1; task_name = two.1; input_name = three.1; output_name = four.1; mode_name = five.1 }
-
--- names make the test true
-names_from : (p : Parts) → SixNames p → are_names p ≡ true
-names_from p h = rw (h.module_name, h.sensor_name, h.task_name, h.input_name, h.output_name, h.mode_name) refl
+    record {
+      module_name = one.0;
+      sensor_name = one.1;
+      task_name = two.1;
+      input_name = three.1;
+      output_name = four.1;
+      mode_name = five.1;
+    }
 
 -- an identifier byte is ASCII
 byte_ascii : (c : ℕ) → is_name_byte c ≡ true → c < 128
@@ -73,7 +77,9 @@ list_all_in p (x ∷ xs) (suc k) within h = list_all_in p xs k (omega arith) (an
 pub name_bytes : (t : List ℕ) → is_name t ≡ true → list_all is_name_byte t ≡ true
 name_bytes [] h = refl
 name_bytes (c ∷ cs) h =
-    let word = (and_parts (is_word (c ∷ cs)) (nat_le (length (c ∷ cs)) 64) (and_parts (is_identifier (c ∷ cs)) (not (is_reserved (c ∷ cs))) h).0).0 in
+    let word =
+    (and_parts (is_word (c ∷ cs)) (nat_le (length (c ∷ cs)) 64)
+    (and_parts (is_identifier (c ∷ cs)) (not (is_reserved (c ∷ cs))) h).0).0 in
     let parts = and_parts (is_letter c) (list_all is_name_byte cs) word in
     and_from (is_name_byte c) (list_all is_name_byte cs) (letter_name c parts.0) parts.1
 
@@ -82,7 +88,8 @@ pub name_utf8 : (t : List ℕ) → is_name t ≡ true → IsUtf8 t
 name_utf8 t h = IsUtf8-from_ascii t (name_ascii t (name_bytes t h))
 
 -- decoding a name's bytes as text succeeds
-pub decoded : {T E : Type 0} (P : T → Type 0) (Q : E → Type 0) (r : Result T E) (t : List ℕ) → IsUtf8 t → MatchResult r P (λ e. ¬ (IsUtf8 t) × Q e) → IsOk r
+pub decoded : {T E : Type 0} (P : T → Type 0) (Q : E → Type 0) (r : Result T E) (t : List ℕ) → IsUtf8 t →
+    MatchResult r P (λ e. ¬ (IsUtf8 t) × Q e) → IsOk r
 decoded P Q (Ok x) t text h = refl
 decoded P Q (Err e) t text h = absurd (h.0 text)
 
@@ -109,11 +116,6 @@ four_apart p h =
       task_mode = differ p.task.now p.mode.now two.1;
       input_output = differ p.input.now p.output.now three.1;
     }
-
--- and what differs makes the test true
-apart_from : (p : Parts) → FourApart p → are_apart p ≡ true
-apart_from p h =
-    rw (told p.sensor.now p.task.now h.sensor_task, told p.sensor.now p.mode.now h.sensor_mode, told p.task.now p.mode.now h.task_mode, told p.input.now p.output.now h.input_output) refl
 
 -- what `in_range` tests
 pub record FiveBounds (n : Numbers) : Type 0 where
@@ -146,10 +148,17 @@ five_bounds n h =
 -- and ranges make the test true
 pub range_from : (n : Numbers) → FiveBounds n → in_range n ≡ true
 range_from n h =
-    rw (le-leb 1 n.period h.period_from, le-leb n.period 10000 h.period_to, le-leb 1 n.worst h.worst_from, le-leb n.worst (1000 * n.period) h.worst_to, le-leb n.initial 2147483647 h.initial_to) refl
+    rw (
+      le-leb 1 n.period h.period_from,
+      le-leb n.period 10000 h.period_to,
+      le-leb 1 n.worst h.worst_from,
+      le-leb n.worst (1000 * n.period) h.worst_to,
+      le-leb n.initial 2147483647 h.initial_to,
+    ) refl
 
 -- tested parts and numbers make a lawful form
-pub formed : (p : Parts) (n : Numbers) → are_names p ≡ true → are_apart p ≡ true → HasNumbers p n → IsFormOf (form_of p n) p
+pub formed : (p : Parts) (n : Numbers) → are_names p ≡ true → are_apart p ≡ true → HasNumbers p n →
+    IsFormOf (form_of p n) p
 formed p n named apart numbers =
     let six = six_names p named in
     let four = four_apart p apart in
@@ -184,29 +193,11 @@ formed p n named apart numbers =
     }
 
 -- the same of what a call gave
-pub formed_all : (r : Result Form SourceError) (p : Parts) (n : Numbers) → IfOk r (λ form. form ≡ form_of p n) → are_names p ≡ true → are_apart p ≡ true → HasNumbers p n → IfOk r (λ form. IsFormOf form p)
-formed_all (Ok form) p n same named apart numbers = subst (λ (f : Form). IsFormOf f p) (sym same) (formed p n named apart numbers)
+pub formed_all : (r : Result Form SourceError) (p : Parts) (n : Numbers) → IfOk r (λ form. form ≡ form_of p n) →
+    are_names p ≡ true → are_apart p ≡ true → HasNumbers p n → IfOk r (λ form. IsFormOf form p)
+formed_all (Ok form) p n same named apart numbers =
+    subst (λ (f : Form). IsFormOf f p) (sym same) (formed p n named apart numbers)
 formed_all (Err e) p n same named apart numbers = tt
-
--- the parts of a form are names
-pub form_names : (form : Form) (p : Parts) → IsFormOf form p → are_names p ≡ true
-form_names form p f = names_from p (record {
-  module_name = ap is_name (sym f.module_same) ∙ f.lawful.module_name;
-  sensor_name = ap is_name (sym f.sensor_same) ∙ f.lawful.sensor_name;
-  task_name = ap is_name (sym f.task_same) ∙ f.lawful.task_name;
-  input_name = ap is_name (sym f.input_same) ∙ f.lawful.input_name;
-  output_name = ap is_name (sym f.output_same) ∙ f.lawful.output_name;
-  mode_name = ap is_name (sym f.mode_same) ∙ f.lawful.mode_name;
-})
-
--- and those that must differ do
-pub form_apart : (form : Form) (p : Parts) → IsFormOf form p → are_apart p ≡ true
-form_apart form p f = apart_from p (record {
-  sensor_task = λ e. f.lawful.sensor_is_no_task (f.sensor_same ∙ e ∙ sym f.task_same);
-  sensor_mode = λ e. f.lawful.sensor_is_no_mode (f.sensor_same ∙ e ∙ sym f.mode_same);
-  task_mode = λ e. f.lawful.task_is_no_mode (f.task_same ∙ e ∙ sym f.mode_same);
-  input_output = λ e. f.lawful.input_is_no_output (f.input_same ∙ e ∙ sym f.output_same);
-})
 
 -- a sentence's parts are its own
 pub record SameParts (m s t w a o i n q m' s' t' w' a' o' i' n' q' : List ℕ) : Type 0 where
@@ -221,7 +212,9 @@ pub record SameParts (m s t w a o i n q m' s' t' w' a' o' i' n' q' : List ℕ) :
   pub same_period : q ≡ q'
 
 -- equal sentences have equal parts
-pub same_parts : (m s t w a o i n q m' s' t' w' a' o' i' n' q' : List ℕ) → sentence m s t w a o i n q ≡ sentence m' s' t' w' a' o' i' n' q' → SameParts m s t w a o i n q m' s' t' w' a' o' i' n' q'
+pub same_parts : (m s t w a o i n q m' s' t' w' a' o' i' n' q' : List ℕ) →
+    sentence m s t w a o i n q ≡ sentence m' s' t' w' a' o' i' n' q' →
+    SameParts m s t w a o i n q m' s' t' w' a' o' i' n' q'
 unfolding sentence
 same_parts m s t w a o i n q m' s' t' w' a' o' i' n' q' e = record {
   same_module = ap (λ (ts : List (List ℕ)). text_at ts 1) e;
@@ -236,7 +229,8 @@ same_parts m s t w a o i n q m' s' t' w' a' o' i' n' q' e = record {
 }
 
 -- where the parts' sentence spells the bytes, their form's plain source is these
-pub plain_from : (form : Form) (p : Parts) (bytes : List ℕ) (texts : List (List ℕ)) → Spells texts bytes → texts ≡ sentence_of p → IsFormOf form p → IsPlainSource form bytes
+pub plain_from : (form : Form) (p : Parts) (bytes : List ℕ) (texts : List (List ℕ)) → Spells texts bytes →
+    texts ≡ sentence_of p → IsFormOf form p → IsPlainSource form bytes
 unfolding sentence_of
 plain_from form p bytes texts spelled same f = record {
   lawful = f.lawful;
@@ -246,14 +240,21 @@ plain_from form p bytes texts spelled same f = record {
   worst_value = f.worst_value;
   initial_value = f.initial_value;
   period_value = f.period_value;
-  spelled = rw (f.module_same, f.sensor_same, f.task_same, f.input_same, f.output_same, f.mode_same) (subst (λ (ts : List (List ℕ)). Spells ts bytes) same spelled);
+  spelled =
+      rw (f.module_same, f.sensor_same, f.task_same, f.input_same, f.output_same, f.mode_same)
+      (subst (λ (ts : List (List ℕ)). Spells ts bytes) same spelled);
 }
 
 -- where the bytes are a form's plain source, the sentence that they spell has that form's parts
-pub form_from : (form : Form) (p : Parts) (bytes : List ℕ) (texts : List (List ℕ)) → ((ts : List (List ℕ)) → Spells ts bytes → ts ≡ texts) → texts ≡ sentence_of p → IsPlainSource form bytes → IsFormOf form p
+pub form_from : (form : Form) (p : Parts) (bytes : List ℕ) (texts : List (List ℕ)) →
+    ((ts : List (List ℕ)) → Spells ts bytes → ts ≡ texts) → texts ≡ sentence_of p → IsPlainSource form bytes →
+    IsFormOf form p
 unfolding sentence_of
 form_from form p bytes texts only same plain =
-    let parts = same_parts form.module form.sensor form.task plain.worst form.input form.output plain.initial form.mode plain.period p.module.now p.sensor.now p.task.now p.worst.now p.input.now p.output.now p.initial.now p.mode.now p.period.now (only _ plain.spelled ∙ same) in
+    let parts =
+    same_parts form.module form.sensor form.task plain.worst form.input form.output plain.initial form.mode
+    plain.period p.module.now p.sensor.now p.task.now p.worst.now p.input.now p.output.now p.initial.now p.mode.now
+    p.period.now (only _ plain.spelled ∙ same) in
     record {
       lawful = plain.lawful;
       module_same = parts.same_module;
@@ -282,15 +283,16 @@ form_unique f g p x y = λ i. record {
 }
 
 -- what a call gave for the parts is a form whose plain source the bytes are
-pub plain_all : (r : Result Form SourceError) (p : Parts) (bytes : List ℕ) (texts : List (List ℕ)) → Spells texts bytes → texts ≡ sentence_of p → IfOk r (λ form. IsFormOf form p) → IfOk r (λ form. IsPlainSource form bytes)
+pub plain_all : (r : Result Form SourceError) (p : Parts) (bytes : List ℕ) (texts : List (List ℕ)) →
+    Spells texts bytes → texts ≡ sentence_of p → IfOk r (λ form. IsFormOf form p) →
+    IfOk r (λ form. IsPlainSource form bytes)
 plain_all (Ok form) p bytes texts spelled same f = plain_from form p bytes texts spelled same f
 plain_all (Err e) p bytes texts spelled same f = tt
 
 -- and it is the only one
-pub only_all : (r : Result Form SourceError) (p : Parts) (bytes : List ℕ) (texts : List (List ℕ)) → ((ts : List (List ℕ)) → Spells ts bytes → ts ≡ texts) → texts ≡ sentence_of p → IfOk r (λ form. IsFormOf form p) → (form : Form) → IsPlainSource form bytes → IfOk r (λ found. found ≡ form)
-only_all (Ok found) p bytes texts only same f form plain = form_unique found form p f (form_from form p bytes texts only same plain)
+pub only_all : (r : Result Form SourceError) (p : Parts) (bytes : List ℕ) (texts : List (List ℕ)) →
+    ((ts : List (List ℕ)) → Spells ts bytes → ts ≡ texts) → texts ≡ sentence_of p → IfOk r (λ form. IsFormOf form p) →
+    (form : Form) → IsPlainSource form bytes → IfOk r (λ found. found ≡ form)
+only_all (Ok found) p bytes texts only same f form plain =
+    form_unique found form p f (form_from form p bytes texts only same plain)
 only_all (Err e) p bytes texts only same f form plain = tt
-
--- a byte that no identifier has stands nowhere in a name
-pub name_lacks : (t : List ℕ) (c : ℕ) → is_name t ≡ true → is_name_byte c ≡ false → (k : ℕ) → k < length t → get_or t k 0 ≢ c
-name_lacks t c name other k within e = false≢true (sym other ∙ ap is_name_byte (sym e) ∙ list_all_in is_name_byte t k within (name_bytes t name))

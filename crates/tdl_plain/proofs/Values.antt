@@ -6,14 +6,16 @@ use Rattle.tdl_plain.specs.Tokens.{is_number}
 use Rattle.tdl_plain.specs.PlainSource.{number_value}
 
 -- a word that begins with a letter is one by its other bytes
-pub word_behind : (t : List ℕ) → is_letter (get_or t 0 0) ≡ true → list_all is_name_byte (take (length t - 1) (drop 1 t)) ≡ is_word t
-word_behind [] letter = absurd cc
-word_behind (c ∷ cs) letter = rw (letter, take_rest (c ∷ cs) 1) refl
+pub word_after : (t : List ℕ) → is_letter (get_or t 0 0) ≡ true →
+    list_all is_name_byte (take (length t - 1) (drop 1 t)) ≡ is_word t
+word_after [] letter = absurd cc
+word_after (c ∷ cs) letter = rw (letter, take_rest (c ∷ cs) 1) refl
 
 -- a number that begins with a digit is one by its other bytes
-pub number_behind : (t : List ℕ) → is_digit (get_or t 0 0) ≡ true → list_all is_digit (take (length t - 1) (drop 1 t)) ≡ is_number t
-number_behind [] digit = absurd cc
-number_behind (c ∷ cs) digit = rw (digit, take_rest (c ∷ cs) 1) refl
+pub number_after : (t : List ℕ) → is_digit (get_or t 0 0) ≡ true →
+    list_all is_digit (take (length t - 1) (drop 1 t)) ≡ is_number t
+number_after [] digit = absurd cc
+number_after (c ∷ cs) digit = rw (digit, take_rest (c ∷ cs) 1) refl
 
 -- ten times a sum of two
 tenfold : (a p v d : ℕ) → a * (p * 10) + (v * 10 + d) ≡ (a * p + v) * 10 + d
@@ -27,7 +29,11 @@ value_push (x ∷ xs) c =
     rw (length_push xs c, value_push xs c, power) (tenfold (x - 48) (10 ^ length xs) (number_value xs) (c - 48))
 
 -- the capped value, one digit further on
-pub value_step : (digits : List ℕ) (i v tens digit next : ℕ) → i < length digits → v ≡ min (number_value (take i digits)) 18446744073709551615 → tens ≡ min (v * 10) 18446744073709551615 → digit ≡ get_or digits i 0 - 48 → next ≡ min (tens + digit) 18446744073709551615 → next ≡ min (number_value (take (i + 1) digits)) 18446744073709551615
+pub value_step : (digits : List ℕ) (i v tens digit next : ℕ) → i < length digits →
+    v ≡ min (number_value (take i digits)) 18446744073709551615 → tens ≡ min (v * 10) 18446744073709551615 →
+    digit ≡ get_or digits i 0 - 48 → next ≡ min (tens + digit) 18446744073709551615 →
+    next ≡ min (number_value (take (i + 1) digits)) 18446744073709551615
 value_step digits i v tens digit next within e by_ten by_digit sum =
-    let more : number_value (take (i + 1) digits) ≡ number_value (take i digits) * 10 + (get_or digits i 0 - 48) = ap number_value (take_more digits i 0 within) ∙ value_push (take i digits) (get_or digits i 0) in
+    let more : number_value (take (i + 1) digits) ≡ number_value (take i digits) * 10 + (get_or digits i 0 - 48) =
+    ap number_value (take_more digits i 0 within) ∙ value_push (take i digits) (get_or digits i 0) in
     omega arith

@@ -7,12 +7,14 @@ use Rattle.tdl_plain.specs.Reading.{in_range}
 
 -- the six names are names
 abbrev pub has_names : Form → Bool
-has_names f = is_name f.module && is_name f.sensor && is_name f.task && is_name f.input && is_name f.output && is_name f.mode
+has_names f =
+    is_name f.module && is_name f.sensor && is_name f.task && is_name f.input && is_name f.output && is_name f.mode
 
 -- the names that must differ do
 abbrev pub is_apart : Form → Bool
 is_apart f =
-    not (bytes_eq f.sensor f.task) && not (bytes_eq f.sensor f.mode) && not (bytes_eq f.task f.mode) && not (bytes_eq f.input f.output)
+    not (bytes_eq f.sensor f.task) && not (bytes_eq f.sensor f.mode) && not (bytes_eq f.task f.mode) && not
+    (bytes_eq f.input f.output)
 
 -- its three numbers
 abbrev pub numbers_in : Form → Numbers

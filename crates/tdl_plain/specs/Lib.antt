@@ -3,3 +3,6 @@ pub mod Reading
 pub mod Tokens
 pub mod PlainProgram
 pub mod Checking
+pub mod Runnable
+pub mod Says
+pub mod Counting

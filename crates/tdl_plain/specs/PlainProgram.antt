@@ -1,3 +1,4 @@
+-- The program that a plain source says.
 use Rattle.std.specs.Prelude.{ℕ, pos, ◌*◌, true, List, [], ◌∷◌, None}
 use Rattle.tdl_base.specs.declared.kinds.Kind.TheVariants.{Int}
 use Rattle.tdl_base.specs.declared.numbers.Place.TheVariants.{Sensor, Cell}
@@ -22,8 +23,8 @@ abbrev pub add_input : Body
 add_input = record { stmts = stmt.Assign 1 (expr.Bin Add (expr.Load (Cell 1)) (expr.Load (Cell 0))) ∷ [] }
 
 -- the one task
-abbrev pub task_of : Form → Task
-task_of f = record {
+abbrev pub plain_task : Form → Task
+plain_task f = record {
   name = f.task;
   public = true;
   worst = record { 0 = f.worst };
@@ -38,8 +39,8 @@ abbrev pub period_us : Form → ℕ
 period_us f = f.period * 1000
 
 -- the task with the sensor as its argument, over the whole period
-abbrev pub invocation_of : Form → Invocation
-invocation_of f = record {
+abbrev pub plain_invocation : Form → Invocation
+plain_invocation f = record {
   act = 0;
   task = record { 0 = 0 };
   s = record { 0 = 0 };
@@ -49,28 +50,28 @@ invocation_of f = record {
 }
 
 -- the one mode
-abbrev pub mode_of : Form → Mode
-mode_of f = record {
+abbrev pub plain_mode : Form → Mode
+plain_mode f = record {
   name = f.mode;
   period = record { 0 = period_us f };
-  invocations = invocation_of f ∷ [];
+  invocations = plain_invocation f ∷ [];
   updates = [];
   switches = [];
 }
 
 -- the one module
-abbrev pub module_of : Form → Module
-module_of f = record {
+abbrev pub plain_module : Form → Module
+plain_module f = record {
   name = f.module;
   imports = [];
   constants = [];
   sensors = int_port f.sensor 0 ∷ [];
   actuators = [];
-  tasks = task_of f ∷ [];
-  modes = mode_of f ∷ [];
+  tasks = plain_task f ∷ [];
+  modes = plain_mode f ∷ [];
   start = record { 0 = 0 };
 }
 
 -- the program that a plain source says
 abbrev pub program_of : Form → Program
-program_of f = record { modules = module_of f ∷ [] }
+program_of f = record { modules = plain_module f ∷ [] }

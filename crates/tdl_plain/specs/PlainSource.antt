@@ -1,3 +1,4 @@
+-- What is a plain source, and its form.
 use Rattle.std.specs.Prelude.{◌≡◌, ◌≢◌, ℕ, ◌+◌, ◌-◌, ◌*◌, ◌^◌, ◌≤◌, length, Bool, ◌&&◌, not, List, [], ◌∷◌, IsTrue, codes, bytes_eq}
 use Rattle.std.specs.List.{list_any}
 use Rattle.tdl_plain.specs.declared.form.Form.{Form}
@@ -20,7 +21,7 @@ is_reserved t = list_any (λ word. bytes_eq word t) reserved_words
 abbrev pub is_name : List ℕ → Bool
 is_name t = is_identifier t && not (is_reserved t)
 
--- the value of digits: each, less the 48 of `0`, counts ten times for each digit behind it
+-- the value of digits: each, less the 48 of `0`, counts ten times for each digit after it
 abbrev pub number_value : List ℕ → ℕ
 number_value [] = 0
 number_value (c ∷ cs) = (c - 48) * 10 ^ length cs + number_value cs
@@ -30,7 +31,8 @@ pub record IsNumeral (digits : List ℕ) (value : ℕ) : Type 0 where
   pub number : IsTrue (is_number digits)
   pub valued : number_value digits ≡ value
 
--- the tokens of a plain program: module m, sensor s, task t, worst case w, input a, output o, initial value i, mode n, period q
+-- the tokens of a plain program: module m, sensor s, task t, worst case w, input a, output o, initial value i, mode n,
+-- period q
 unfoldable pub sentence : (m s t w a o i n q : List ℕ) → List (List ℕ)
 sentence m s t w a o i n q =
     codes "module" ∷ m ∷ codes "{" ∷ codes "sensor" ∷ codes "int" ∷ s ∷ codes ";" ∷
@@ -39,7 +41,8 @@ sentence m s t w a o i n q =
     codes "output" ∷ codes "int" ∷ o ∷ codes ":=" ∷ i ∷ codes ";" ∷
     o ∷ codes ":=" ∷ o ∷ codes "+" ∷ a ∷ codes ";" ∷ codes "}" ∷
     codes "start" ∷ codes "mode" ∷ n ∷ codes "[" ∷ codes "period" ∷ codes "=" ∷ q ∷ codes "ms" ∷ codes "]" ∷ codes "{" ∷
-    codes "task" ∷ codes "[" ∷ codes "freq" ∷ codes "=" ∷ codes "1" ∷ codes "]" ∷ t ∷ codes "(" ∷ s ∷ codes ")" ∷ codes ";" ∷
+    codes "task" ∷ codes "[" ∷ codes "freq" ∷ codes "=" ∷ codes "1" ∷ codes "]" ∷ t ∷ codes "(" ∷ s ∷ codes ")" ∷ codes
+    ";" ∷
     codes "}" ∷ codes "}" ∷ []
 
 -- the form's names are names, those that must differ do, and its numbers are in range: worst in us, period in ms
@@ -69,4 +72,5 @@ pub record IsPlainSource (form : Form) (bytes : List ℕ) : Type 0 where
   pub worst_value : IsNumeral worst form.worst
   pub initial_value : IsNumeral initial form.initial
   pub period_value : IsNumeral period form.period
-  pub spelled : Spells (sentence form.module form.sensor form.task worst form.input form.output initial form.mode period) bytes
+  pub spelled : Spells
+      (sentence form.module form.sensor form.task worst form.input form.output initial form.mode period) bytes

@@ -1,3 +1,4 @@
+-- The tokens of a plain source in their order, and what is read of them.
 use Rattle.std.specs.Prelude.{◌≡◌, ℕ, ◌*◌, ◌≤◌, nat_le, Bool, ◌&&◌, not, List, [], ◌++◌, length, take, drop, Option, Some, None, bytes_eq, IsTrue, unwrap_or, slice_get}
 use Rattle.tdl_plain.specs.declared.sentence.Parts.{Parts}
 use Rattle.tdl_plain.specs.declared.form.Form.{Form}
@@ -20,26 +21,33 @@ text_at tokens at = unwrap_or (slice_get tokens at) []
 
 -- the sentence with these parts
 unfoldable pub sentence_of : Parts → List (List ℕ)
-sentence_of p = sentence p.module.now p.sensor.now p.task.now p.worst.now p.input.now p.output.now p.initial.now p.mode.now p.period.now
+sentence_of p =
+    sentence p.module.now p.sensor.now p.task.now p.worst.now p.input.now p.output.now p.initial.now p.mode.now
+    p.period.now
 
 -- the sentence whose parts stand where a sentence has its parts
 unfoldable pub sentence_at : List (List ℕ) → List (List ℕ)
 sentence_at ts =
-    sentence (text_at ts 1) (text_at ts 5) (text_at ts 9) (text_at ts 13) (text_at ts 19) (text_at ts 23) (text_at ts 25) (text_at ts 36) (text_at ts 40)
+    sentence (text_at ts 1) (text_at ts 5) (text_at ts 9) (text_at ts 13) (text_at ts 19) (text_at ts 23)
+    (text_at ts 25) (text_at ts 36) (text_at ts 40)
 
 -- the six names are names
 abbrev pub are_names : Parts → Bool
 are_names p =
-    is_name p.module.now && is_name p.sensor.now && is_name p.task.now && is_name p.input.now && is_name p.output.now && is_name p.mode.now
+    is_name p.module.now && is_name p.sensor.now && is_name p.task.now && is_name p.input.now && is_name p.output.now
+    && is_name p.mode.now
 
 -- the names that must differ do
 abbrev pub are_apart : Parts → Bool
 are_apart p =
-    not (bytes_eq p.sensor.now p.task.now) && not (bytes_eq p.sensor.now p.mode.now) && not (bytes_eq p.task.now p.mode.now) && not (bytes_eq p.input.now p.output.now)
+    not (bytes_eq p.sensor.now p.task.now) && not (bytes_eq p.sensor.now p.mode.now) && not
+    (bytes_eq p.task.now p.mode.now) && not (bytes_eq p.input.now p.output.now)
 
 -- the numbers are in range
 abbrev pub in_range : Numbers → Bool
-in_range n = nat_le 1 n.period && nat_le n.period 10000 && nat_le 1 n.worst && nat_le n.worst (1000 * n.period) && nat_le n.initial 2147483647
+in_range n =
+    nat_le 1 n.period && nat_le n.period 10000 && nat_le 1 n.worst && nat_le n.worst (1000 * n.period) && nat_le
+    n.initial 2147483647
 
 -- the parts' three numbers have these values, which are in range
 pub record HasNumbers (p : Parts) (n : Numbers) : Type 0 where

@@ -1,3 +1,4 @@
+-- The tokens of a source.
 use Rattle.std.specs.Prelude.{◌≡◌, ℕ, Bool, false, ◌&&◌, ◌||◌, nat_le, ◌==◌, List, [], ◌∷◌, ◌++◌, length, IsTrue, codes, bytes_eq}
 use Rattle.std.specs.List.{list_all, list_any}
 use Rattle.tdl_base.specs.Letters.{is_digit, is_word}
@@ -37,16 +38,16 @@ is_token t = is_identifier t || is_number t || is_sign t
 -- t is the token at the front of `t ++ rest`: no longer lexeme begins there
 pub record IsFirst (t rest : List ℕ) : Type 0 where
   pub token : IsTrue (is_token t)
-  pub longest : (more behind : List ℕ) → rest ≡ more ++ behind → IsTrue (is_lexeme (t ++ more)) → more ≡ []
+  pub longest : (more after : List ℕ) → rest ≡ more ++ after → IsTrue (is_lexeme (t ++ more)) → more ≡ []
 
--- behind blanks, the bytes begin with the token t, and `rest` follows it
+-- after blanks, the bytes begin with the token t, and `rest` follows it
 pub record Begins (t rest bytes : List ℕ) : Type 0 where
   pub gap : List ℕ
   pub blank : IsTrue (list_all is_blank gap)
   pub parts : bytes ≡ gap ++ (t ++ rest)
   pub first : IsFirst t rest
 
--- the bytes are these tokens, with blanks before, between and behind them
+-- the bytes are these tokens, with blanks before, between and after them
 abbrev pub Spells : List (List ℕ) → List ℕ → Type 0
 Spells [] bytes = IsTrue (list_all is_blank bytes)
 Spells (t ∷ ts) bytes = (rest : List ℕ) × Begins t rest bytes × Spells ts rest

@@ -8,8 +8,8 @@ use std::alloc::{AllocError, AllocFailed};
 use tdl_base::Text;
 use thiserror::Error;
 
-/// A plain program: in each period its one task adds the sensor's value to its output. The names are
-/// identifiers of at most 64 bytes and no reserved words.
+/// A plain program: in each period its one task adds the sensor's value to its output. The names
+/// are identifiers of at most 64 bytes and no reserved words.
 #[derive(Debug, Drop)]
 pub struct Form {
     pub module: Text,

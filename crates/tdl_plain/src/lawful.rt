@@ -107,7 +107,8 @@ fn named_form(alloc: Global, parts: &Parts, numbers: Numbers) -> Result<Form, So
 /// The lawful form with these parts.
 pub fn form_of(alloc: Global, parts: &Parts) -> Result<Form, SourceError>
     ensures ok { IfOk result (λ form. reading.IsFormOf form parts.now) }
-    ensures refused { IsErrOf result SourceError.NotPlain → (form : Form) → ¬ reading.IsFormOf form parts.now }
+    ensures refused { IsErrOf result SourceError.NotPlain → (form : Form) →
+        ¬ reading.IsFormOf form parts.now }
 {
     if !are_names(parts) {
         return Err(SourceError::NotPlain);

@@ -74,8 +74,8 @@ fn blank_run(bytes: &[u8]) -> usize
     bytes.iter().take_while(|c| is_blank(**c)).count()
 }
 
-/// What stands behind the blanks.
-fn behind_blanks(bytes: &[u8]) -> &[u8]
+/// What stands after the blanks.
+fn after_blanks(bytes: &[u8]) -> &[u8]
     ensures { result.now ≡ drop (prefix_len spec.is_blank bytes.now) bytes.now }
 {
     &bytes[blank_run(bytes)..]
@@ -133,12 +133,12 @@ fn token_length(bytes: &[u8]) -> Option<usize>
     }
 }
 
-/// The first token behind the blanks, and what follows it.
+/// The first token after the blanks, and what follows it.
 fn first_token(bytes: &[u8]) -> Option<(&[u8], &[u8])>
     ensures some { IfSome result (λ cut. spec.Begins cut.0.now cut.1.now bytes.now) }
     ensures none { IfNone result ((t rest : List ℕ) → ¬ spec.Begins t rest bytes.now) }
 {
-    let start = behind_blanks(bytes);
+    let start = after_blanks(bytes);
     match token_length(start) {
         None => None,
         Some(length) => Some(start.split_at(length)),
@@ -154,8 +154,10 @@ fn is_all_blank(bytes: &[u8]) -> bool
 /// The tokens of the bytes, which have one list of them at most.
 pub fn tokens<'a>(alloc: Global, bytes: &'a [u8]) -> Result<Vec<&'a [u8]>, SourceError>
     ensures spelled { IfOk result (λ found. spec.Spells (map (λ t. t.now) found.items) bytes.now) }
-    ensures only { (ts : List (List ℕ)) → spec.Spells ts bytes.now → IfOk result (λ found. ts ≡ map (λ t. t.now) found.items) }
-    ensures refused { IsErrOf result SourceError.NotPlain → (ts : List (List ℕ)) → ¬ spec.Spells ts bytes.now }
+    ensures only { (ts : List (List ℕ)) → spec.Spells ts bytes.now →
+        IfOk result (λ found. ts ≡ map (λ t. t.now) found.items) }
+    ensures refused { IsErrOf result SourceError.NotPlain → (ts : List (List ℕ)) →
+        ¬ spec.Spells ts bytes.now }
 {
     let mut found = Vec::new(alloc);
     let mut left = bytes;

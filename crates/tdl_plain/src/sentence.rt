@@ -75,8 +75,10 @@ fn is_same(tokens: &[&[u8]], wanted: &[&[u8]]) -> bool
 
 /// The free parts of the tokens, if these are a plain program's sentence.
 pub fn parts_of<'a>(tokens: &[&'a [u8]]) -> Option<Parts<'a>>
-    ensures some { IfSome result (λ parts. map (λ t. t.now) tokens.now ≡ reading.sentence_of parts) }
-    ensures none { IfNone result ((m s t w a o i n q : List ℕ) → map (λ t. t.now) tokens.now ≢ sentence m s t w a o i n q) }
+    ensures some { IfSome result
+        (λ parts. map (λ t. t.now) tokens.now ≡ reading.sentence_of parts) }
+    ensures none { IfNone result
+        ((m s t w a o i n q : List ℕ) → map (λ t. t.now) tokens.now ≢ sentence m s t w a o i n q) }
 {
     let parts = parts_at(tokens);
     if !is_same(tokens, &sentence_of(&parts)) {

@@ -77,7 +77,9 @@ fn capped_value(digits: &[u8]) -> u64
 
 /// The number's value, capped.
 pub fn number(token: &[u8]) -> Option<u64>
-    ensures { result ≡ (if tokens.is_number token.now then Some (min (spec.number_value token.now) u64.MAX) else None) }
+    ensures { result
+        ≡ (if tokens.is_number token.now then Some (min (spec.number_value token.now) u64.MAX)
+        else None) }
 {
     if !is_number(token) {
         return None;

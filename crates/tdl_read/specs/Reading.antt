@@ -1,6 +1,8 @@
--- The form in the bytes of a plain bundle. Its names and numbers stand one after the other, with fixed counts of bytes between them.
-use Rattle.std.specs.Prelude.{ℕ, ◌/◌, List, [], ◌∷◌, length, take, drop, nat_lt, if◌then◌else◌, codes, bytes_eq}
-use Rattle.std.specs.Int.{Width, w32, w64, byte_len, from_be_bytes}
+-- The form in the bytes of a plain bundle. Its names and numbers stand one after the other, with fixed counts of bytes
+-- between them.
+use Rattle.std.specs.Prelude.{ℕ, ◌/◌, List, [], ◌∷◌, take, drop, if◌then◌else◌, codes, bytes_eq, unwrap_or}
+use Rattle.std.specs.Int.{Width, w32, w64}
+use Rattle.tdl_base.specs.Bytes.{number_at}
 use Rattle.tdl_plain.specs.declared.form.Form.{Form}
 use Rattle.tdl_plain.specs.PlainSource.{is_name}
 
@@ -9,7 +11,7 @@ abbrev pub string_in : List ℕ → List ℕ
 string_in [] = []
 string_in (count ∷ bytes) = take count bytes
 
--- what is behind the string at the front
+-- what is after the string at the front
 abbrev pub after_string : List ℕ → List ℕ
 after_string [] = []
 after_string (count ∷ bytes) = drop count bytes
@@ -19,8 +21,8 @@ abbrev pub name_in : List ℕ → List ℕ
 name_in bytes = if is_name (string_in bytes) then string_in bytes else []
 
 -- the number at the front; 0 where the bytes are too few
-abbrev pub number_in : Width → List ℕ → ℕ
-number_in w bytes = if nat_lt (length bytes) (byte_len w) then 0 else from_be_bytes w bytes
+abbrev pub front_number : Width → List ℕ → ℕ
+front_number w bytes = unwrap_or (number_at w bytes) 0
 
 -- from the module's name on
 abbrev pub from_module : List ℕ → List ℕ
@@ -64,10 +66,10 @@ form_in bytes = record {
   «module» = name_in (from_module bytes);
   sensor = name_in (from_sensor bytes);
   task = name_in (from_task bytes);
-  worst = number_in w32 (from_worst bytes);
+  worst = front_number w32 (from_worst bytes);
   input = input_beside (name_in (from_output bytes));
   output = name_in (from_output bytes);
-  initial = number_in w64 (from_initial bytes);
+  initial = front_number w64 (from_initial bytes);
   mode = name_in (from_mode bytes);
-  period = number_in w32 (from_period bytes) / 1000;
+  period = front_number w32 (from_period bytes) / 1000;
 }

@@ -3,6 +3,8 @@ ghost use Rattle.std.specs.Int.{w32, w64};
 ghost use Rattle.std.specs.Prelude.{◌≡◌, take, drop};
 ghost use Rattle.tdl_read.specs.Reading as reading;
 
+use tdl_base::bytes::{long_at, word_at};
+
 fn first(bytes: &[u8], count: usize) -> &[u8]
     ensures { result.now ≡ take count bytes.now }
 {
@@ -13,7 +15,7 @@ fn first(bytes: &[u8], count: usize) -> &[u8]
     }
 }
 
-/// What is behind so many bytes.
+/// What is after so many bytes.
 pub fn skip(bytes: &[u8], count: usize) -> &[u8]
     ensures { result.now ≡ drop count bytes.now }
 {
@@ -34,7 +36,7 @@ pub fn string(bytes: &[u8]) -> &[u8]
     }
 }
 
-/// What is behind the string at the front.
+/// What is after the string at the front.
 pub fn after_string(bytes: &[u8]) -> &[u8]
     ensures { result.now ≡ reading.after_string bytes.now }
 {
@@ -46,20 +48,14 @@ pub fn after_string(bytes: &[u8]) -> &[u8]
 
 /// The number of four bytes at the front.
 pub fn word(bytes: &[u8]) -> u32
-    ensures { result ≡ reading.number_in w32 bytes.now }
+    ensures { result ≡ reading.front_number w32 bytes.now }
 {
-    match bytes {
-        [a, b, c, d, ..] => u32::from_be_bytes([*a, *b, *c, *d]),
-        _ => 0,
-    }
+    word_at(bytes).unwrap_or(0)
 }
 
 /// The number of eight bytes at the front.
 pub fn long(bytes: &[u8]) -> u64
-    ensures { result ≡ reading.number_in w64 bytes.now }
+    ensures { result ≡ reading.front_number w64 bytes.now }
 {
-    match bytes {
-        [a, b, c, d, e, f, g, h, ..] => u64::from_be_bytes([*a, *b, *c, *d, *e, *f, *g, *h]),
-        _ => 0,
-    }
+    long_at(bytes).unwrap_or(0)
 }

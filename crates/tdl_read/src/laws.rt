@@ -8,7 +8,8 @@ ghost use Rattle.tdl_node.specs.Machines.{IsOneHost};
 
 /// Two bundles of plain programs with one spelling are one.
 pub fn plain_spellings()
-    ensures { (a b : Bundle) → IsPlainBundle a → IsPlainBundle b → bundle_bytes a ≡ bundle_bytes b → a ≡ b }
+    ensures { (a b : Bundle) → IsPlainBundle a → IsPlainBundle b →
+        bundle_bytes a ≡ bundle_bytes b → a ≡ b }
 {}
 
 /// The bundle of a plain program has one node, which hosts one module, and it can be spelled.

@@ -1,4 +1,5 @@
 //! Reading of the bundles of plain programs, and the names that a bundle's rows are printed with.
+//! It goes once the bundle reader and its test stand, which take the bundle of every program.
 #![tactic(auto)]
 
 mod cursor;

@@ -1,9 +1,10 @@
 ghost use Rattle.std.specs.Prelude.{◌≡◌, [], ◌∷◌, map, IfOk};
+ghost use Rattle.tdl_base.specs.declared.numbers.TheConstants.{FIRST_NODE};
 ghost use Rattle.tdl_node.specs.Machines.{IsOneHost};
 ghost use Rattle.tdl_verify.specs.Texts as texts;
 
 use std::alloc::Global;
-use tdl_base::{Kind, Listed, NoMemory, NodeId, Text, Us};
+use tdl_base::{FIRST_NODE, Kind, Listed, NoMemory, Text, Us};
 use tdl_image::{Bundle, Hosted, Initial, KindName, TaskTable};
 use tdl_trace::{ModuleNames, Named, Names, TaskNames};
 
@@ -68,11 +69,11 @@ fn task_names(alloc: Global, tables: &[TaskTable]) -> Result<Listed<TaskNames>, 
 
 /// The names of a module that the first node hosts.
 fn host_names(alloc: Global, host: &Hosted) -> Result<ModuleNames, NoMemory>
-    ensures { IfOk result (λ names. names ≡ texts.hosted_names 0 host.now) }
+    ensures { IfOk result (λ names. names ≡ texts.hosted_names FIRST_NODE.0 host.now) }
 {
     Ok(ModuleNames {
         number: host.number,
-        node: NodeId(0),
+        node: FIRST_NODE,
         name: Text::from_str(alloc, host.name.as_str())?,
         sensors: sensor_names(alloc, host.sensors.as_slice())?,
         actuators: port_names(alloc, host.actuators.as_slice())?,

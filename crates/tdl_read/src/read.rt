@@ -9,8 +9,8 @@ use std::alloc::Global;
 use tdl_image::{Bundle, write_bundle};
 use tdl_make::plain_bundle;
 
-/// The bundle of a plain program whose spelling the bytes are: there is one at most. `BadForm` comes
-/// exactly where there is none.
+/// The bundle of a plain program whose spelling the bytes are: there is one at most. `BadForm`
+/// comes exactly where there is none.
 pub fn read_plain(alloc: Global, bytes: &[u8]) -> Result<Bundle, PlainError>
     ensures plain { IfOk result (λ bundle. IsPlainBundle bundle) }
     ensures spelled { IfOk result (λ bundle. bytes.now ≡ bundle_bytes bundle) }

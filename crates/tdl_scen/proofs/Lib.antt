@@ -1,4 +1,5 @@
 pub mod CutLemmas
 pub mod NumberLemmas
 pub mod PlainLemmas
+pub mod SensesLemmas
 pub mod TimesExamples

@@ -1,3 +1,4 @@
 pub mod Lines
 pub mod Scenario
 pub mod PlainScenario
+pub mod Senses

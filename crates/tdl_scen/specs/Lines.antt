@@ -25,14 +25,14 @@ abbrev pub lines_of : List ℕ → List (List ℕ)
 lines_of bytes = lines_from [] bytes
 
 -- a space or a tab
-abbrev pub is_blank : ℕ → Bool
-is_blank b = b == 32 || b == 9
+abbrev pub is_space_or_tab : ℕ → Bool
+is_space_or_tab b = b == 32 || b == 9
 
 -- the words where `front` is what has been read of the first: blanks stand between them
 abbrev pub words_from : List ℕ → List ℕ → List (List ℕ)
 words_from front [] = with_piece front []
 words_from front (b ∷ bs) =
-    if is_blank b then with_piece front (words_from [] bs) else words_from (front ++ b ∷ []) bs
+    if is_space_or_tab b then with_piece front (words_from [] bs) else words_from (front ++ b ∷ []) bs
 
 -- the words of a line
 abbrev pub words_of : List ℕ → List (List ℕ)
@@ -56,12 +56,12 @@ abbrev pub value_of_digits : List ℕ → ℕ
 value_of_digits digits = fold (λ n digit. 10 * n + (digit - 48)) 0 digits
 
 -- one to nineteen decimal digits
-abbrev pub is_number : List ℕ → Bool
-is_number word = nat_le 1 (length word) && nat_le (length word) 19 && list_all is_ascii_digit word
+abbrev pub is_decimal : List ℕ → Bool
+is_decimal word = nat_le 1 (length word) && nat_le (length word) 19 && list_all is_ascii_digit word
 
 -- the number that a word is, if it is one
 abbrev pub number_of : List ℕ → Option ℕ
-number_of word = if is_number word then Some (value_of_digits word) else None
+number_of word = if is_decimal word then Some (value_of_digits word) else None
 
 -- the signed number that a word is, if it is one: a number, before which one `-` may stand
 abbrev pub signed_of : List ℕ → Option ℤ

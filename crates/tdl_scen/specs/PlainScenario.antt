@@ -50,7 +50,8 @@ statement_of name words = None
 -- what a line says, if it is one of a plain scenario: it is skipped, or it is text of these forms
 abbrev pub plain_line : List ℕ → List ℕ → Option PlainLine
 plain_line name line =
-    if is_skipped (words_of line) then Some Skipped else (if is_text line then statement_of name (words_of line) else None)
+    if is_skipped (words_of line) then Some Skipped
+    else (if is_text line then statement_of name (words_of line) else None)
 
 -- every line is one of a plain scenario
 abbrev pub are_plain : List ℕ → List (List ℕ) → Bool
@@ -71,8 +72,8 @@ abbrev pub horizons_of : List ℕ → List (List ℕ) → List Us
 horizons_of name lines = filter_map (λ line. horizon_in (plain_line name line)) lines
 
 -- the entries that the lines say, in order
-abbrev pub entries_of : List ℕ → List (List ℕ) → List Sense
-entries_of name lines = filter_map (λ line. entry_in (plain_line name line)) lines
+abbrev pub senses_of : List ℕ → List (List ℕ) → List Sense
+senses_of name lines = filter_map (λ line. entry_in (plain_line name line)) lines
 
 -- the instants of entries
 abbrev pub instants_of : List Sense → List ℕ
@@ -86,7 +87,7 @@ pub record IsPlainScenario (module_name sensor_name bytes : List ℕ) (s : Scena
   pub horizon : horizons_of (sensor_word module_name sensor_name) (lines_of bytes) ≡ s.horizon ∷ []
   pub limit : s.horizon.0 ≤ HORIZON_US
   -- the entries are those of the lines, and each is later than the one before it
-  pub senses : entries_of (sensor_word module_name sensor_name) (lines_of bytes) ≡ s.senses
+  pub senses : senses_of (sensor_word module_name sensor_name) (lines_of bytes) ≡ s.senses
   pub rising : IsStrictlyIncreasing (instants_of s.senses)
   -- there is nothing else
   pub times : s.times ≡ []

@@ -1,11 +1,8 @@
 -- What a scenario says: what each sensor reads at each instant, and how long each job takes.
 use Rattle.std.specs.Prelude.{ℕ, suc, zero, Bool, ◌==◌, nat_le, ◌&&◌, if◌then◌else◌, ℤ, pos, List, [], ◌∷◌, flat_map, slice_get, unwrap_or}
+use Rattle.tdl_base.specs.Sensed.{Course}
 use Rattle.tdl_scen.specs.declared.entries.Sense.{Sense}
 use Rattle.tdl_scen.specs.declared.entries.TaskTimes.{TaskTimes}
-
--- what is sensed: at an instant, in a module, by a sensor
-abbrev pub Course : Type 0
-Course = ℕ → ℕ → ℕ → ℤ
 
 -- an entry of sensor k of module m, at or before x
 abbrev pub is_sensed_by : Sense → ℕ → ℕ → ℕ → Bool

@@ -1,5 +1,5 @@
 ghost use Rattle.std.specs.Prelude.{◌≡◌, ◌+◌, ◌<◌, ◌≤◌, ◌↔◌, [], ◌∷◌, List, ℕ, length, map, take, drop, IsNone, IfSome, IfOk, OnOk, ◌++◌};
-ghost use Rattle.tdl_scen.specs.Lines.{lines_of, words_of, with_piece, without_cr, is_blank as blank, is_text_byte as text_byte, is_skipped as skipped, is_text as text};
+ghost use Rattle.tdl_scen.specs.Lines.{lines_of, words_of, with_piece, without_cr, is_space_or_tab as blank, is_text_byte as text_byte, is_skipped as skipped, is_text as text};
 
 use std::alloc::Global;
 use tdl_base::NoMemory;
@@ -24,7 +24,8 @@ pub fn next_line(bytes: &[u8]) -> Option<(&[u8], &[u8])>
 fn line_end(bytes: &[u8]) -> usize
     ensures within { result ≤ length bytes.now }
     ensures ended { result < length bytes.now →
-        lines_of bytes.now ≡ without_cr (take result bytes.now) ∷ lines_of (drop (result + 1) bytes.now) }
+        lines_of bytes.now ≡ without_cr (take result bytes.now)
+        ∷ lines_of (drop (result + 1) bytes.now) }
     ensures last { result ≡ length bytes.now → lines_of bytes.now ≡ with_piece bytes.now [] }
 {
     for (i, b) in bytes.iter().enumerate() {
@@ -64,7 +65,7 @@ pub fn words(alloc: Global, line: &[u8]) -> Result<Vec<&[u8]>, NoMemory>
     }
 }
 
-/// Puts a piece behind the words, unless it is empty.
+/// Puts a piece after the words, unless it is empty.
 fn put_piece<'a>(found: &mut Vec<&'a [u8]>, piece: &'a [u8]) -> Result<(), NoMemory>
     ensures { OnOk result ((more : List (List ℕ)) →
         map (λ word. word.now) found.new.items ++ more ≡
@@ -81,7 +82,8 @@ fn put_piece<'a>(found: &mut Vec<&'a [u8]>, piece: &'a [u8]) -> Result<(), NoMem
 fn word_end(line: &[u8]) -> usize
     ensures within { result ≤ length line.now }
     ensures ended { result < length line.now →
-        words_of line.now ≡ with_piece (take result line.now) (words_of (drop (result + 1) line.now)) }
+        words_of line.now
+        ≡ with_piece (take result line.now) (words_of (drop (result + 1) line.now)) }
     ensures last { result ≡ length line.now → words_of line.now ≡ with_piece line.now [] }
 {
     for (i, b) in line.iter().enumerate() {
@@ -98,17 +100,21 @@ fn is_blank(b: u8) -> bool
     b == b' ' || b == b'\t'
 }
 
-/// Whether a line of these words is passed over: it has none, or it is a comment.
-pub fn is_skipped(words: &[&[u8]]) -> bool
-    ensures { result ≡ skipped (map (λ word. word.now) words.now) }
+/// Whether a line is passed over: it has no words, or its first begins with `#`. The line is not
+/// cut into words.
+pub fn is_skipped(line: &[u8]) -> bool
+    ensures { result ≡ skipped (words_of line.now) }
 {
-    match words.first() {
-        None => true,
-        Some(word) => word.starts_with(b"#"),
+    for b in line {
+        if !is_blank(*b) {
+            return *b == b'#';
+        }
     }
+    true
 }
 
-/// Whether each byte of a line is a tab or printable, as those of a line that is not skipped must be.
+/// Whether each byte of a line is a tab or printable, as those of a line that is not skipped must
+/// be.
 pub fn is_text(line: &[u8]) -> bool
     ensures { result ≡ text line.now }
 {

@@ -21,13 +21,13 @@ pub enum PlainLine {
 pub fn plain_line(alloc: Global, name: &[u8], line: &[u8]) -> Result<Option<PlainLine>, NoMemory>
     ensures { IfOk result (λ said. said ≡ line_said name.now line.now) }
 {
-    let words = words(alloc, line)?;
-    if is_skipped(&words) {
+    if is_skipped(line) {
         return Ok(Some(PlainLine::Skipped));
     }
     if !is_text(line) {
         return Ok(None);
     }
+    let words = words(alloc, line)?;
     Ok(statement(name, &words))
 }
 

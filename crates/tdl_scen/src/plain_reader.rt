@@ -6,7 +6,7 @@ ghost use Rattle.tdl_scen.specs.declared.entries.Scenario.{Scenario as Read};
 ghost use Rattle.tdl_scen.specs.declared.entries.Sense.{Sense as SenseEntry};
 ghost use Rattle.tdl_scen.specs.declared.plain_reader.PlainScenarioError.TheVariants.{NoMemory};
 ghost use Rattle.tdl_scen.specs.Lines.{lines_of};
-ghost use Rattle.tdl_scen.specs.PlainScenario.{IsPlainScenario, are_plain, horizons_of, entries_of, horizon_in, entry_in, instants_of, sensor_word as word_of};
+ghost use Rattle.tdl_scen.specs.PlainScenario.{IsPlainScenario, are_plain, horizons_of, senses_of, horizon_in, entry_in, instants_of, sensor_word as word_of};
 
 use crate::plain_lines::{PlainLine, plain_line};
 use crate::{Scenario, Sense, next_line};
@@ -90,8 +90,9 @@ struct Said {
 /// What the lines say where each is one of a plain scenario.
 fn gather(alloc: Global, name: &[u8], bytes: &[u8]) -> Result<Said, PlainScenarioError>
     ensures lines { OnOk result (IsTrue (are_plain name.now (lines_of bytes.now))) }
-    ensures horizons { IfOk result (λ said. said.horizons ≡ horizons_of name.now (lines_of bytes.now)) }
-    ensures senses { IfOk result (λ said. said.senses ≡ entries_of name.now (lines_of bytes.now)) }
+    ensures horizons { IfOk result
+        (λ said. said.horizons ≡ horizons_of name.now (lines_of bytes.now)) }
+    ensures senses { IfOk result (λ said. said.senses ≡ senses_of name.now (lines_of bytes.now)) }
     ensures refused { IsErrOf result PlainScenarioError.NotPlain →
         IsTrue (are_plain name.now (lines_of bytes.now)) → ⊥ }
 {
@@ -110,10 +111,11 @@ fn gather(alloc: Global, name: &[u8], bytes: &[u8]) -> Result<Said, PlainScenari
     Ok(said)
 }
 
-/// Puts what one more line says behind what the lines before it say.
+/// Puts what one more line says after what the lines before it say.
 fn put(said: &mut Said, statement: PlainLine) -> Result<(), NoMemory>
     ensures horizons { OnOk result ((more : List Instant) →
-        said.new.horizons ++ more ≡ said.old.horizons ++ cons_option (horizon_in (Some statement)) more) }
+        said.new.horizons ++ more ≡ said.old.horizons
+        ++ cons_option (horizon_in (Some statement)) more) }
     ensures senses { OnOk result ((more : List SenseEntry) →
         said.new.senses ++ more ≡ said.old.senses ++ cons_option (entry_in (Some statement)) more) }
 {
@@ -135,100 +137,4 @@ fn are_rising(senses: &[Sense]) -> bool
         }
     }
     true
-}
-
-#[cfg(test)]
-mod tests {
-    use super::*;
-    use crate::sensed_value;
-    use tdl_base::ModuleId;
-
-    /// The horizon, how many entries there are, and what is sensed at the horizon.
-    fn outline(alloc: Global, text: &[u8]) -> Option<(u64, usize, i64)> {
-        let scenario = read_plain_scenario(alloc, text, "P", "s").ok()?;
-        let senses = scenario.senses.as_slice();
-        let value = sensed_value(senses, ModuleId(0), 0, scenario.horizon);
-        Some((scenario.horizon.0, senses.len(), value))
-    }
-
-    #[test]
-    fn reads_plain_scenarios(rt: HostRuntime) {
-        let cases = [
-            (b"horizon 10000\nsense P.s 0 1\n".as_slice(), 10000, 1, 1),
-            (b"horizon 10000\nsense P.s 0 1".as_slice(), 10000, 1, 1),
-            (
-                b"horizon 10000\r\nsense P.s 0 1\r\n".as_slice(),
-                10000,
-                1,
-                1,
-            ),
-            (
-                b"\thorizon\t 10000\t\nsense\tP.s  0\t1 ".as_slice(),
-                10000,
-                1,
-                1,
-            ),
-            (b"# \xff\r\n\n \t\n  #x\nhorizon 5\n#".as_slice(), 5, 0, 0),
-            (
-                b"sense P.s 3 7\nsense P.s 6 8\nhorizon 5\n".as_slice(),
-                5,
-                2,
-                7,
-            ),
-            (b"horizon 0\nsense P.s 0 -0\n".as_slice(), 0, 1, 0),
-            (b"horizon 1000000\n".as_slice(), 1_000_000, 0, 0),
-            (
-                b"horizon 5\nsense P.s 5 2147483647".as_slice(),
-                5,
-                1,
-                2_147_483_647,
-            ),
-            (
-                b"horizon 5\nsense P.s 5 -2147483648".as_slice(),
-                5,
-                1,
-                -2_147_483_648,
-            ),
-            (b"horizon 0000000000000000010\n".as_slice(), 10, 0, 0),
-        ];
-        for (text, horizon, entries, value) in cases {
-            assert_eq!(rt;
-                outline(rt.alloc(), text),
-                Some((horizon, entries, value)),
-                "{text:?}"
-            );
-        }
-    }
-
-    #[test]
-    fn refuses_what_is_not_plain(rt: HostRuntime) {
-        let cases = [
-            b"".as_slice(),
-            b"sense P.s 0 1\n".as_slice(),
-            b"horizon 1000001\n".as_slice(),
-            b"horizon 5\nhorizon 5\n".as_slice(),
-            b"horizon 5\nsense P.s 3 1\nsense P.s 3 1\n".as_slice(),
-            b"horizon 5\nsense P.s 3 1\nsense P.s 2 1\n".as_slice(),
-            b"horizon 5\nsense P.s 5 2147483648\n".as_slice(),
-            b"horizon 5\nsense P.s 5 -2147483649\n".as_slice(),
-            b"horizon 5\nsense P.t 0 1\n".as_slice(),
-            b"horizon 5\nsense P.s 0\n".as_slice(),
-            b"horizon 5\nsense P.s 0 -\n".as_slice(),
-            b"horizon 5\nsense P.s 0 1 2\n".as_slice(),
-            b"horizon 5 \xe9\n".as_slice(),
-            b"horizon 5\n\r".as_slice(),
-            b"horizon 5\r".as_slice(),
-            b"horizon 5\r\r\n".as_slice(),
-            b"horizon -5\n".as_slice(),
-            b"horizon\n".as_slice(),
-            b"horizon 00000000000000000010\n".as_slice(),
-        ];
-        for text in cases {
-            let read = read_plain_scenario(rt.alloc(), text, "P", "s");
-            assert!(rt;
-                matches!(read, Err(PlainScenarioError::NotPlain)),
-                "{text:?}"
-            );
-        }
-    }
 }

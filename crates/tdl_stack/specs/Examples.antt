@@ -6,15 +6,16 @@ use Rattle.tdl_base.specs.declared.arithmetic.UnOp.TheVariants.{Neg}
 use Rattle.tdl_base.specs.declared.arithmetic.BinOp.TheVariants.{Add, Greater}
 use Rattle.tdl_stack.specs.declared.instr.Instr.{Instr}
 use Rattle.tdl_stack.specs.declared.instr.Instr.TheVariants.{Const, Load, Store, Un, Bin, Jz, Jmp, Rep}
-use Rattle.tdl_stack.specs.Running.{Cells, Look}
+use Rattle.tdl_base.specs.Cells.{Cells}
+use Rattle.tdl_stack.specs.Running.{Outer}
 
 -- the cells with these numbers in `a` and `o`, of the kind `int`
-abbrev pub cells_of : ℤ → ℤ → Cells
-cells_of a o = record { kinds = Int ∷ Int ∷ []; values = a ∷ o ∷ [] }
+abbrev pub two_cells : ℤ → ℤ → Cells
+two_cells a o = record { kinds = Int ∷ Int ∷ []; values = a ∷ o ∷ [] }
 
 -- if a > 0 { o := 1; } else { o := 2; }
-abbrev pub if_code : List Instr
-if_code =
+abbrev pub choice_code : List Instr
+choice_code =
     Load (Cell 0) ∷ Const (pos 0) ∷ Bin Greater ∷ Jz 3 ∷
     Const (pos 1) ∷ Store 1 ∷ Jmp 2 ∷
     Const (pos 2) ∷ Store 1 ∷ []
@@ -32,5 +33,5 @@ abbrev pub minus_code : List Instr
 minus_code = Load (Sensor 0) ∷ Un Neg ∷ []
 
 -- the look where each sensor reads this number, and each output 0
-abbrev pub sensing : ℤ → Look
+abbrev pub sensing : ℤ → Outer
 sensing v = record { sensor = λ k. v; port = λ key. pos 0 }

@@ -1,7 +1,7 @@
 -- How stack code is spelled in bytes.
 use Rattle.std.specs.Prelude.{ℕ, List, [], ◌∷◌, ◌++◌, length}
 use Rattle.std.specs.List.{flat_map}
-use Rattle.tdl_base.specs.Bytes.{long, short, word}
+use Rattle.tdl_base.specs.Bytes.{long, short, word, FitsShort, FitsWord, FitsLong}
 use Rattle.tdl_base.specs.declared.arithmetic.UnOp.{UnOp}
 use Rattle.tdl_base.specs.declared.arithmetic.UnOp.TheVariants.{Neg, Not}
 use Rattle.tdl_base.specs.declared.arithmetic.BinOp.{BinOp}
@@ -43,6 +43,19 @@ instr_bytes (Bin op) = 6 ∷ bin_byte op ∷ []
 instr_bytes (Jz n) = 7 ∷ word n
 instr_bytes (Jmp n) = 8 ∷ word n
 instr_bytes (Rep n k) = 9 ∷ short n ++ word k
+
+-- each operand fits the bytes that it is spelled in
+abbrev pub IsInRange : Instr → Type 0
+IsInRange (Const v) = FitsLong v
+IsInRange (Load (Sensor k)) = FitsShort k
+IsInRange (Load (Port key)) = FitsShort key.module.0 × FitsShort key.task.0 × FitsShort key.output
+IsInRange (Load (Cell k)) = FitsShort k
+IsInRange (Store k) = FitsShort k
+IsInRange (Un op) = Unit {0}
+IsInRange (Bin op) = Unit {0}
+IsInRange (Jz n) = FitsWord n
+IsInRange (Jmp n) = FitsWord n
+IsInRange (Rep n k) = FitsShort n × FitsWord k
 
 -- the spelling of a code: how many instructions it has, then these
 abbrev pub code_bytes : List Instr → List ℕ

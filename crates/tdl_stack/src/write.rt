@@ -1,8 +1,11 @@
 ghost use Rattle.std.specs.Prelude.{◌≡◌, ◌∷◌, ◌++◌, OnOk, OnErr};
-ghost use Rattle.tdl_base.specs.Bytes.{long, short, word};
+ghost use Rattle.tdl_base.specs.Bytes.{short};
 ghost use Rattle.tdl_stack.specs.Spelling.{instr_bytes, un_byte, bin_byte};
 
 use crate::Instr;
+use tdl_base::bytes::{
+    put_byte_long, put_byte_short, put_byte_short_word, put_byte_word, put_bytes,
+};
 use tdl_base::{BinOp, NoMemory, Place, PortKey, UnOp};
 
 /// Appends the spelling of an instruction: its byte, then its operands in their order, big-endian,
@@ -12,16 +15,16 @@ pub fn put_code_instr(i: &Instr, into: &mut Vec<u8>) -> Result<(), NoMemory>
     ensures err { OnErr result (into.new.items ≡ into.old.items) }
 {
     match *i {
-        Instr::Const(v) => put_long(0, v, into),
-        Instr::Load(Place::Sensor(sensor)) => put_short(1, sensor, into),
-        Instr::Load(Place::Port(key)) => put_key(2, key, into),
-        Instr::Load(Place::Cell(cell)) => put_short(3, cell, into),
-        Instr::Store(cell) => put_short(4, cell, into),
-        Instr::Un(op) => put_bytes(&[5, un_byte(op)], into),
-        Instr::Bin(op) => put_bytes(&[6, bin_byte(op)], into),
-        Instr::Jz(count) => put_word(7, count, into),
-        Instr::Jmp(count) => put_word(8, count, into),
-        Instr::Rep(times, count) => put_short_word(9, times, count, into),
+        Instr::Const(v) => put_byte_long(into, 0, v),
+        Instr::Load(Place::Sensor(sensor)) => put_byte_short(into, 1, sensor),
+        Instr::Load(Place::Port(key)) => put_key(into, key),
+        Instr::Load(Place::Cell(cell)) => put_byte_short(into, 3, cell),
+        Instr::Store(cell) => put_byte_short(into, 4, cell),
+        Instr::Un(op) => put_bytes(into, &[5, un_byte(op)]),
+        Instr::Bin(op) => put_bytes(into, &[6, bin_byte(op)]),
+        Instr::Jz(count) => put_byte_word(into, 7, count),
+        Instr::Jmp(count) => put_byte_word(into, 8, count),
+        Instr::Rep(times, count) => put_byte_short_word(into, 9, times, count),
     }
 }
 
@@ -37,55 +40,16 @@ fn bin_byte(op: BinOp) -> u8
     op as u8
 }
 
-fn put_short(first: u8, operand: u16, into: &mut Vec<u8>) -> Result<(), NoMemory>
-    ensures ok { OnOk result (into.new.items ≡ into.old.items ++ first ∷ short operand) }
-    ensures err { OnErr result (into.new.items ≡ into.old.items) }
-{
-    let [a, b] = operand.to_be_bytes();
-    put_bytes(&[first, a, b], into)
-}
-
-fn put_word(first: u8, operand: u32, into: &mut Vec<u8>) -> Result<(), NoMemory>
-    ensures ok { OnOk result (into.new.items ≡ into.old.items ++ first ∷ word operand) }
-    ensures err { OnErr result (into.new.items ≡ into.old.items) }
-{
-    let [a, b, c, d] = operand.to_be_bytes();
-    put_bytes(&[first, a, b, c, d], into)
-}
-
-fn put_short_word(first: u8, times: u16, count: u32, into: &mut Vec<u8>) -> Result<(), NoMemory>
-    ensures ok { OnOk result (into.new.items ≡ into.old.items ++ first ∷ (short times ++ word count)) }
-    ensures err { OnErr result (into.new.items ≡ into.old.items) }
-{
-    let [a, b] = times.to_be_bytes();
-    let [c, d, e, f] = count.to_be_bytes();
-    put_bytes(&[first, a, b, c, d, e, f], into)
-}
-
-fn put_key(first: u8, key: PortKey, into: &mut Vec<u8>) -> Result<(), NoMemory>
-    ensures ok { OnOk result (into.new.items ≡ into.old.items ++ first ∷ (short key.module.0 ++ short key.task.0 ++ short key.output)) }
+fn put_key(into: &mut Vec<u8>, key: PortKey) -> Result<(), NoMemory>
+    ensures ok { OnOk result
+        (into.new.items ≡ into.old.items ++ 2
+        ∷ (short key.module.0 ++ short key.task.0 ++ short key.output)) }
     ensures err { OnErr result (into.new.items ≡ into.old.items) }
 {
     let [a, b] = key.module.0.to_be_bytes();
     let [c, d] = key.task.0.to_be_bytes();
     let [e, f] = key.output.to_be_bytes();
-    put_bytes(&[first, a, b, c, d, e, f], into)
-}
-
-fn put_long(first: u8, v: i64, into: &mut Vec<u8>) -> Result<(), NoMemory>
-    ensures ok { OnOk result (into.new.items ≡ into.old.items ++ first ∷ long v) }
-    ensures err { OnErr result (into.new.items ≡ into.old.items) }
-{
-    let [a, b, c, d, e, f, g, h] = v.to_be_bytes();
-    put_bytes(&[first, a, b, c, d, e, f, g, h], into)
-}
-
-fn put_bytes(bytes: &[u8], into: &mut Vec<u8>) -> Result<(), NoMemory>
-    ensures ok { OnOk result (into.new.items ≡ into.old.items ++ bytes.now) }
-    ensures err { OnErr result (into.new.items ≡ into.old.items) }
-{
-    into.extend_from_slice(bytes)?;
-    Ok(())
+    put_bytes(into, &[2, a, b, c, d, e, f])
 }
 
 #[cfg(test)]

@@ -1,4 +1,9 @@
+pub mod Reading
+pub mod TakenWords
+pub mod Loading
+pub mod InputsSay
 pub mod Saying
+pub mod Reported
 pub mod Once
 pub mod Done
 pub mod Printing

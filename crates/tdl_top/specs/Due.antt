@@ -5,7 +5,7 @@ use Rattle.tdl_image.specs.declared.bundle.Bundle.{Bundle}
 use Rattle.tdl_top.specs.declared.status.Status.{Status}
 use Rattle.tdl_top.specs.declared.status.Status.TheVariants.{Ok, Usage, LoadFailed, TooLong, WriteFailed, SaveFailed, NoMemory, BadForm}
 use Rattle.tdl_top.specs.declared.words.Call.{Call}
-use Rattle.tdl_top.specs.Words.{Words, call_of, scenario_word}
+use Rattle.tdl_top.specs.Words.{Words, call_in, scenario_word}
 use Rattle.tdl_top.specs.Answers.{HasBundle, HasAsked, IsTooLong, IsOfNoForm}
 
 -- the first file gives a bundle, and the scenario that is asked for is one of it
@@ -28,7 +28,7 @@ IsDueBy held words (Some call) status = IsDueOf held words call status
 
 -- the answer that the words and the files ask for
 abbrev pub IsDue : Held → Words → Status → Type 0
-IsDue held words status = IsDueBy held words (call_of words) status
+IsDue held words status = IsDueBy held words (call_in words) status
 
 -- an answer of a fault or of want of memory; each has a cause of its own
 abbrev pub IsFault : Status → Type 0
@@ -37,11 +37,3 @@ IsFault WriteFailed = ⊤
 IsFault (SaveFailed w) = ⊤
 IsFault NoMemory = ⊤
 IsFault status = ⊥
-
--- the answers before anything is saved or printed
-abbrev pub IsRefusal : Status → Type 0
-IsRefusal Usage = ⊤
-IsRefusal (LoadFailed w) = ⊤
-IsRefusal (TooLong w) = ⊤
-IsRefusal (BadForm w) = ⊤
-IsRefusal status = ⊥

@@ -2,6 +2,7 @@ pub mod Words
 pub mod Statuses
 pub mod Calls
 pub mod Reports
+pub mod Taken
 pub mod Answers
 pub mod Due
 pub mod Loads

@@ -9,13 +9,14 @@ use Rattle.tdl_top.specs.Statuses.{error_line}
 
 -- the line was put once: it was taken whole, or its sink failed and took a first part of it
 pub record IsSaid (err : SinkCall) (line : List ℕ) : Type 0 where
-  pub put : Appends err.contents err.contents_behind line ⊎ (Rose err.faults err.faults_behind × AppendsPart err.contents err.contents_behind line)
-  pub later : err.faults ≤ err.faults_behind
+  pub put : Appends err.before.contents err.after.contents line ⊎
+      (Rose err.before.faults err.after.faults × AppendsPart err.before.contents err.after.contents line)
+  pub later : err.before.faults ≤ err.after.faults
 
 -- nothing was put
 pub record IsQuiet (err : SinkCall) : Type 0 where
-  pub contents : err.contents_behind ≡ err.contents
-  pub count : err.faults_behind ≡ err.faults
+  pub contents : err.after.contents ≡ err.before.contents
+  pub count : err.after.faults ≡ err.before.faults
 
 -- of a refused call the line of a failed save was put, and no other line yet
 abbrev pub IsToldOfSave : Words → SinkCall → Status → Type 0

@@ -1,11 +1,11 @@
-ghost use Rattle.std.specs.Prelude.{◌≡◌, ◌≤◌, ℕ, Some, length, IfOk, IfErr};
-ghost use Rattle.tdl_io.specs.Outside.{Reads, NoCountFalls, NoCountChanges};
+ghost use Rattle.std.specs.Prelude.{◌≡◌, ℕ, Some, IfOk, IfErr};
 ghost use Rattle.tdl_trace.specs.Lines.{module_name, sensor_name};
 ghost use Rattle.tdl_verify.specs.Texts.{bundle_names};
 ghost use Rattle.tdl_make.specs.PlainBundle.{IsPlainBundle};
 ghost use Rattle.tdl_top.specs.declared.words.Call.{Call};
 ghost use Rattle.tdl_top.specs.Words.{texts, word_at, scenario_word};
-ghost use Rattle.tdl_top.specs.Calls.{files_call};
+ghost use Rattle.tdl_top.specs.Calls.{files_call, OnlyLoads};
+ghost use Rattle.tdl_top.specs.Taken.{IsRead};
 ghost use Rattle.tdl_top.specs.Answers.{InputSays, HasBundle, HasScenario, IsOfSource};
 ghost use Rattle.tdl_top.specs.Loads.{LoadSays};
 
@@ -28,13 +28,11 @@ fn load<F: Files>(
     at: usize,
     limit: usize,
 ) -> Result<Vec<u8>, Status>
-    ensures read { IfOk result (λ bytes. Reads (F.holds files.old) (word_at (texts words.now) at) bytes.items) }
-    ensures within { IfOk result (λ bytes. length bytes.items ≤ limit) }
-    ensures refused { IfErr result (LoadSays (files_call F.holds F.faults F.failed_loads F.failed_saves files.old files.new) (word_at (texts words.now) at) limit at) }
-    ensures held { F.holds files.new ≡ F.holds files.old }
-    ensures later { F.faults files.old ≤ F.faults files.new }
-    ensures counts { NoCountFalls (F.failed_loads files.old) (F.failed_loads files.new) }
-    ensures saves { NoCountChanges (F.failed_saves files.old) (F.failed_saves files.new) }
+    ensures ok { IfOk result (λ bytes.
+        IsRead (F.told files.old).holds (texts words.now) at limit bytes.items) }
+    ensures refused { IfErr result (LoadSays (files_call F.told files.old files.new)
+        (word_at (texts words.now) at) limit at) }
+    ensures loads { OnlyLoads (files_call F.told files.old files.new) }
 {
     let mut bytes = Vec::new(alloc);
     match files.load(word(words, at), limit, &mut bytes) {
@@ -51,13 +49,12 @@ pub fn read_source<F: Files>(
     files: &mut F,
     words: &[String],
 ) -> Result<Bundle, Status>
-    ensures ok { IfOk result (λ bundle. (call : Call) → IsOfSource call → HasBundle (F.holds files.old) (texts words.now) call bundle) }
+    ensures ok { IfOk result (λ bundle. (call : Call) → IsOfSource call
+        → HasBundle (F.told files.old).holds (texts words.now) call bundle) }
     ensures plain { IfOk result (λ bundle. IsPlainBundle bundle) }
-    ensures refused { (call : Call) → IsOfSource call → IfErr result (InputSays (files_call F.holds F.faults F.failed_loads F.failed_saves files.old files.new) (texts words.now) call) }
-    ensures held { F.holds files.new ≡ F.holds files.old }
-    ensures later { F.faults files.old ≤ F.faults files.new }
-    ensures counts { NoCountFalls (F.failed_loads files.old) (F.failed_loads files.new) }
-    ensures saves { NoCountChanges (F.failed_saves files.old) (F.failed_saves files.new) }
+    ensures refused { (call : Call) → IsOfSource call → IfErr result
+        (InputSays (files_call F.told files.old files.new) (texts words.now) call) }
+    ensures loads { OnlyLoads (files_call F.told files.old files.new) }
 {
     let bytes = load(alloc, files, words, FILE_WORD, SOURCE_BYTES)?;
     match read_plain_source(alloc, &bytes) {
@@ -73,13 +70,12 @@ pub fn read_bundle<F: Files>(
     files: &mut F,
     words: &[String],
 ) -> Result<Bundle, Status>
-    ensures ok { IfOk result (λ bundle. (w : ℕ) → HasBundle (F.holds files.old) (texts words.now) (Call.Exec w) bundle) }
+    ensures ok { IfOk result (λ bundle. (w : ℕ)
+        → HasBundle (F.told files.old).holds (texts words.now) (Call.Exec w) bundle) }
     ensures plain { IfOk result (λ bundle. IsPlainBundle bundle) }
-    ensures refused { (w : ℕ) → IfErr result (InputSays (files_call F.holds F.faults F.failed_loads F.failed_saves files.old files.new) (texts words.now) (Call.Exec w)) }
-    ensures held { F.holds files.new ≡ F.holds files.old }
-    ensures later { F.faults files.old ≤ F.faults files.new }
-    ensures counts { NoCountFalls (F.failed_loads files.old) (F.failed_loads files.new) }
-    ensures saves { NoCountChanges (F.failed_saves files.old) (F.failed_saves files.new) }
+    ensures refused { (w : ℕ) → IfErr result
+        (InputSays (files_call F.told files.old files.new) (texts words.now) (Call.Exec w)) }
+    ensures loads { OnlyLoads (files_call F.told files.old files.new) }
 {
     let bytes = load(alloc, files, words, FILE_WORD, BUNDLE_BYTES)?;
     match read_plain(alloc, &bytes) {
@@ -116,12 +112,12 @@ pub fn read_scenario<F: Files>(
     bundle: &Bundle,
 ) -> Result<Scenario, Status>
     requires { IsPlainBundle bundle.now }
-    ensures ok { IfOk result (HasScenario (F.holds files.old) (texts words.now) bundle.now at) }
-    ensures refused { (call : Call) → scenario_word call ≡ Some at → HasBundle (F.holds files.old) (texts words.now) call bundle.now → IfErr result (InputSays (files_call F.holds F.faults F.failed_loads F.failed_saves files.old files.new) (texts words.now) call) }
-    ensures held { F.holds files.new ≡ F.holds files.old }
-    ensures later { F.faults files.old ≤ F.faults files.new }
-    ensures counts { NoCountFalls (F.failed_loads files.old) (F.failed_loads files.new) }
-    ensures saves { NoCountChanges (F.failed_saves files.old) (F.failed_saves files.new) }
+    ensures ok { IfOk result
+        (HasScenario (F.told files.old).holds (texts words.now) (bundle_names bundle.now) at) }
+    ensures refused { (call : Call) → scenario_word call ≡ Some at
+        → HasBundle (F.told files.old).holds (texts words.now) call bundle.now
+        → IfErr result (InputSays (files_call F.told files.old files.new) (texts words.now) call) }
+    ensures loads { OnlyLoads (files_call F.told files.old files.new) }
 {
     let bytes = load(alloc, files, words, at, SCENARIO_BYTES)?;
     let (owner, sensor) = sensor_of(bundle);

@@ -2,6 +2,7 @@
 #![tactic(auto)]
 
 mod inputs;
+pub mod laws;
 mod print;
 mod report;
 mod save;
@@ -14,4 +15,16 @@ pub use tdl_read::{PlainError, read_plain};
 pub use top::tdl;
 
 #[cfg(test)]
-mod tests;
+mod cases;
+#[cfg(test)]
+mod compile_tests;
+#[cfg(test)]
+mod exec_tests;
+#[cfg(test)]
+mod fault_tests;
+#[cfg(test)]
+mod run_tests;
+#[cfg(test)]
+mod samples;
+#[cfg(test)]
+mod words_tests;

@@ -1,4 +1,7 @@
 ghost use Rattle.std.specs.Prelude.{◌≡◌, ◌≤◌, [], OnOk, IfErr};
+ghost use Rattle.std.specs.List.Sorted.{IsStrictlyIncreasing};
+ghost use Rattle.tdl_scen.specs.PlainScenario.{instants_of};
+ghost use Rattle.tdl_base.specs.declared.limits.TheConstants.{HORIZON_US};
 ghost use Rattle.tdl_io.specs.Outside.{Appends};
 ghost use Rattle.tdl_verify.specs.Texts.{bundle_text};
 ghost use Rattle.tdl_make.specs.PlainBundle.{IsPlainBundle};
@@ -23,9 +26,12 @@ pub fn print_run<O: Sink>(
 ) -> Result<(), Status>
     requires plain { IsPlainBundle bundle.now }
     requires times { scenario.now.times ≡ [] }
-    requires end { scenario.now.horizon.0 ≤ 1000000 }
-    ensures ok { OnOk result (Appends (O.contents out.old) (O.contents out.new) (bundle_text bundle.now scenario.now)) }
-    ensures refused { IfErr result (PrintSays (sink_call O.contents O.faults out.old out.new) (bundle_text bundle.now scenario.now)) }
+    requires rising { IsStrictlyIncreasing (instants_of scenario.now.senses) }
+    requires end { scenario.now.horizon.0 ≤ HORIZON_US }
+    ensures ok { OnOk result (Appends (O.told out.old).contents (O.told out.new).contents
+        (bundle_text bundle.now scenario.now)) }
+    ensures refused { IfErr result (PrintSays (sink_call O.told out.old out.new)
+        (bundle_text bundle.now scenario.now)) }
 {
     let names = bundle_names(alloc, bundle)?;
     let mut machine = HostMachine::begin(alloc, bundle)?;

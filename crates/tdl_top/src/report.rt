@@ -22,7 +22,7 @@ pub fn line_with(alloc: Global, text: &[u8], name: &str) -> Result<Vec<u8>, NoMe
 
 /// Puts a line; a fault of the sink changes nothing.
 pub fn say<E: Sink>(line: &[u8], err: &mut E)
-    ensures { IsSaid (sink_call E.contents E.faults err.old err.new) line.now }
+    ensures { IsSaid (sink_call E.told err.old err.new) line.now }
 {
     let _ = err.put(line);
 }
@@ -35,9 +35,10 @@ fn say_named<E: Sink>(
     status: Status,
     err: &mut E,
 ) -> Status
-    requires { error_line (texts words.now) status ≡ named_line text.now (word_at (texts words.now) at) }
+    requires { error_line (texts words.now) status ≡ named_line text.now
+        (word_at (texts words.now) at) }
     ensures kept { (result ≡ status) ⊎ (result ≡ Status.NoMemory) }
-    ensures said { IsSaid (sink_call E.contents E.faults err.old err.new) (error_line (texts words.now) result) }
+    ensures said { IsSaid (sink_call E.told err.old err.new) (error_line (texts words.now) result) }
 {
     match line_with(alloc, text, word(words, at)) {
         Ok(line) => {
@@ -51,15 +52,15 @@ fn say_named<E: Sink>(
     }
 }
 
-/// Puts the line of a status. Where there is no memory for it, the status is NoMemory. The line of a
-/// failed save was put by the save.
+/// Puts the line of a status. Where there is no memory for it, the status is NoMemory. The line of
+/// a failed save was put by the save.
 pub fn report<E: Sink>(alloc: Global, words: &[String], status: Status, err: &mut E) -> Status
     requires ok { status ≢ Status.Ok }
     requires save { (w : ℕ) → status ≢ Status.SaveFailed w }
     ensures kept { (result ≡ status) ⊎ (result ≡ Status.NoMemory) }
     ensures usage { status ≡ Status.Usage → result ≡ status }
     ensures written { status ≡ Status.WriteFailed → result ≡ status }
-    ensures said { IsSaid (sink_call E.contents E.faults err.old err.new) (error_line (texts words.now) result) }
+    ensures said { IsSaid (sink_call E.told err.old err.new) (error_line (texts words.now) result) }
 {
     match status {
         Status::Ok | Status::SaveFailed { word: _ } => unreachable!(),

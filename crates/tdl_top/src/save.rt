@@ -24,11 +24,15 @@ fn save<F: Files, E: Sink>(
     bytes: &[u8],
     err: &mut E,
 ) -> Result<(), Status>
-    ensures ok { OnOk result (Saves (F.holds files.new) (word_at (texts words.now) at) bytes.now) }
-    ensures others { KeepsOthers (F.holds files.old) (F.holds files.new) (word_at (texts words.now) at) }
-    ensures refused { IfErr result (SaveSays (files_call F.holds F.faults F.failed_loads F.failed_saves files.old files.new) (word_at (texts words.now) at) at) }
-    ensures told { IfErr result (IsToldOfSave (texts words.now) (sink_call E.contents E.faults err.old err.new)) }
-    ensures quiet { OnOk result (IsQuiet (sink_call E.contents E.faults err.old err.new)) }
+    ensures ok { OnOk result (Saves (F.told files.new).holds
+        (word_at (texts words.now) at) bytes.now) }
+    ensures others { KeepsOthers (F.told files.old).holds (F.told files.new).holds
+        (word_at (texts words.now) at) }
+    ensures refused { IfErr result (SaveSays (files_call F.told files.old files.new)
+        (word_at (texts words.now) at) at) }
+    ensures told { IfErr result (IsToldOfSave (texts words.now)
+        (sink_call E.told err.old err.new)) }
+    ensures quiet { OnOk result (IsQuiet (sink_call E.told err.old err.new)) }
 {
     let line = line_with(alloc, b"tdl: cannot save ", word(words, at))?;
     match files.save(word(words, at), bytes) {
@@ -51,11 +55,15 @@ pub fn save_bundle<F: Files, E: Sink>(
     err: &mut E,
 ) -> Result<(), Status>
     requires { IsSpellable bundle.now }
-    ensures ok { OnOk result (Saves (F.holds files.new) (word_at (texts words.now) at) (bundle_bytes bundle.now)) }
-    ensures others { KeepsOthers (F.holds files.old) (F.holds files.new) (word_at (texts words.now) at) }
-    ensures refused { IfErr result (SaveSays (files_call F.holds F.faults F.failed_loads F.failed_saves files.old files.new) (word_at (texts words.now) at) at) }
-    ensures told { IfErr result (IsToldOfSave (texts words.now) (sink_call E.contents E.faults err.old err.new)) }
-    ensures quiet { OnOk result (IsQuiet (sink_call E.contents E.faults err.old err.new)) }
+    ensures ok { OnOk result (Saves (F.told files.new).holds (word_at (texts words.now) at)
+        (bundle_bytes bundle.now)) }
+    ensures others { KeepsOthers (F.told files.old).holds (F.told files.new).holds
+        (word_at (texts words.now) at) }
+    ensures refused { IfErr result (SaveSays (files_call F.told files.old files.new)
+        (word_at (texts words.now) at) at) }
+    ensures told { IfErr result (IsToldOfSave (texts words.now)
+        (sink_call E.told err.old err.new)) }
+    ensures quiet { OnOk result (IsQuiet (sink_call E.told err.old err.new)) }
 {
     let bytes = write_bundle(alloc, bundle)?;
     save(alloc, files, words, at, &bytes, err)

@@ -1,13 +1,13 @@
 ghost use Rattle.std.specs.Prelude.{◌≡◌, ◌≢◌, ◌⊎◌, ◌↔◌, ℕ, OnOk, IfErr, Some, None};
-ghost use Rattle.tdl_io.specs.Outside.{Held, Rose};
+ghost use Rattle.tdl_io.specs.Outside.{Held};
 ghost use Rattle.tdl_top.specs.declared.status.Status.{Status};
 ghost use Rattle.tdl_top.specs.declared.words.Call.{Call};
-ghost use Rattle.tdl_top.specs.Words.{texts, call_of};
+ghost use Rattle.tdl_top.specs.Words.{texts, call_in};
 ghost use Rattle.tdl_top.specs.Statuses.{error_line};
 ghost use Rattle.tdl_top.specs.Calls.{SinkCall, files_call, sink_call, IsUnchanged, IsSilent};
 ghost use Rattle.tdl_top.specs.Reports.{IsSaid, IsQuiet, IsToldOfSave};
-ghost use Rattle.tdl_top.specs.Answers.{Says, SaysOf, IsLoadFault, IsTooLong, IsOfNoForm, IsSaveFault, IsPartDone};
-ghost use Rattle.tdl_top.specs.Due.{IsDue, IsFault, IsRefusal};
+ghost use Rattle.tdl_top.specs.Answers.{AnswerSays, AnswerSaysOf};
+ghost use Rattle.tdl_top.specs.Due.{IsDue, IsFault};
 ghost use Rattle.tdl_top.specs.Headline.{Compiles, Runs, Executes};
 
 use crate::Status;
@@ -27,11 +27,15 @@ fn compile_source<F: Files, E: Sink>(
     files: &mut F,
     err: &mut E,
 ) -> Result<(), Status>
-    ensures ok { (out : SinkCall) → IsSilent out → OnOk result (SaysOf (files_call F.holds F.faults F.failed_loads F.failed_saves files.old files.new) (texts words.now) out (Call.Compile place) Status.Ok) }
-    ensures refused { (out : SinkCall) → IsSilent out → IfErr result (SaysOf (files_call F.holds F.faults F.failed_loads F.failed_saves files.old files.new) (texts words.now) out (Call.Compile place)) }
+    ensures ok { (out : SinkCall) → IsSilent out → OnOk result (AnswerSaysOf
+        (files_call F.told files.old files.new) (texts words.now) out
+        (Call.Compile place) Status.Ok) }
+    ensures refused { (out : SinkCall) → IsSilent out → IfErr result (AnswerSaysOf
+        (files_call F.told files.old files.new) (texts words.now) out (Call.Compile place)) }
     ensures not_ok { IfErr result (λ status. status ≢ Status.Ok) }
-    ensures told { IfErr result (IsToldOfSave (texts words.now) (sink_call E.contents E.faults err.old err.new)) }
-    ensures quiet { OnOk result (IsQuiet (sink_call E.contents E.faults err.old err.new)) }
+    ensures told { IfErr result (IsToldOfSave (texts words.now)
+        (sink_call E.told err.old err.new)) }
+    ensures quiet { OnOk result (IsQuiet (sink_call E.told err.old err.new)) }
 {
     let bundle = read_source(alloc, files, words)?;
     save_bundle(alloc, files, words, place, &bundle, err)
@@ -48,11 +52,14 @@ fn run_source<F: Files, O: Sink, E: Sink>(
     out: &mut O,
     err: &mut E,
 ) -> Result<(), Status>
-    ensures ok { OnOk result (SaysOf (files_call F.holds F.faults F.failed_loads F.failed_saves files.old files.new) (texts words.now) (sink_call O.contents O.faults out.old out.new) (Call.Run place at) Status.Ok) }
-    ensures refused { IfErr result (SaysOf (files_call F.holds F.faults F.failed_loads F.failed_saves files.old files.new) (texts words.now) (sink_call O.contents O.faults out.old out.new) (Call.Run place at)) }
+    ensures ok { OnOk result (AnswerSaysOf (files_call F.told files.old files.new)
+        (texts words.now) (sink_call O.told out.old out.new) (Call.Run place at) Status.Ok) }
+    ensures refused { IfErr result (AnswerSaysOf (files_call F.told files.old files.new)
+        (texts words.now) (sink_call O.told out.old out.new) (Call.Run place at)) }
     ensures not_ok { IfErr result (λ status. status ≢ Status.Ok) }
-    ensures told { IfErr result (IsToldOfSave (texts words.now) (sink_call E.contents E.faults err.old err.new)) }
-    ensures quiet { OnOk result (IsQuiet (sink_call E.contents E.faults err.old err.new)) }
+    ensures told { IfErr result (IsToldOfSave (texts words.now)
+        (sink_call E.told err.old err.new)) }
+    ensures quiet { OnOk result (IsQuiet (sink_call E.told err.old err.new)) }
 {
     let bundle = read_source(alloc, files, words)?;
     let scenario = read_scenario(alloc, files, words, at, &bundle)?;
@@ -68,8 +75,10 @@ fn exec_bundle<F: Files, O: Sink>(
     files: &mut F,
     out: &mut O,
 ) -> Result<(), Status>
-    ensures ok { OnOk result (SaysOf (files_call F.holds F.faults F.failed_loads F.failed_saves files.old files.new) (texts words.now) (sink_call O.contents O.faults out.old out.new) (Call.Exec at) Status.Ok) }
-    ensures refused { IfErr result (SaysOf (files_call F.holds F.faults F.failed_loads F.failed_saves files.old files.new) (texts words.now) (sink_call O.contents O.faults out.old out.new) (Call.Exec at)) }
+    ensures ok { OnOk result (AnswerSaysOf (files_call F.told files.old files.new)
+        (texts words.now) (sink_call O.told out.old out.new) (Call.Exec at) Status.Ok) }
+    ensures refused { IfErr result (AnswerSaysOf (files_call F.told files.old files.new)
+        (texts words.now) (sink_call O.told out.old out.new) (Call.Exec at)) }
     ensures not_ok { IfErr result (λ status. status ≢ Status.Ok) }
     ensures not_save { (w : ℕ) → IfErr result (λ status. status ≢ Status.SaveFailed w) }
 {
@@ -85,11 +94,14 @@ fn perform<F: Files, O: Sink, E: Sink>(
     out: &mut O,
     err: &mut E,
 ) -> Result<(), Status>
-    ensures ok { OnOk result (Says (files_call F.holds F.faults F.failed_loads F.failed_saves files.old files.new) (texts words.now) (sink_call O.contents O.faults out.old out.new) Status.Ok) }
-    ensures refused { IfErr result (Says (files_call F.holds F.faults F.failed_loads F.failed_saves files.old files.new) (texts words.now) (sink_call O.contents O.faults out.old out.new)) }
+    ensures ok { OnOk result (AnswerSays (files_call F.told files.old files.new) (texts words.now)
+        (sink_call O.told out.old out.new) Status.Ok) }
+    ensures refused { IfErr result (AnswerSays (files_call F.told files.old files.new)
+        (texts words.now) (sink_call O.told out.old out.new)) }
     ensures not_ok { IfErr result (λ status. status ≢ Status.Ok) }
-    ensures told { IfErr result (IsToldOfSave (texts words.now) (sink_call E.contents E.faults err.old err.new)) }
-    ensures quiet { OnOk result (IsQuiet (sink_call E.contents E.faults err.old err.new)) }
+    ensures told { IfErr result (IsToldOfSave (texts words.now)
+        (sink_call E.told err.old err.new)) }
+    ensures quiet { OnOk result (IsQuiet (sink_call E.told err.old err.new)) }
 {
     match read_call(words) {
         None => Err(Status::Usage),
@@ -111,9 +123,11 @@ fn answer<F: Files, O: Sink, E: Sink>(
     out: &mut O,
     err: &mut E,
 ) -> Status
-    ensures says { Says (files_call F.holds F.faults F.failed_loads F.failed_saves files.old files.new) (texts words.now) (sink_call O.contents O.faults out.old out.new) result }
-    ensures line { result ≢ Status.Ok → IsSaid (sink_call E.contents E.faults err.old err.new) (error_line (texts words.now) result) }
-    ensures quiet { result ≡ Status.Ok → IsQuiet (sink_call E.contents E.faults err.old err.new) }
+    ensures says { AnswerSays (files_call F.told files.old files.new) (texts words.now)
+        (sink_call O.told out.old out.new) result }
+    ensures line { result ≢ Status.Ok → IsSaid (sink_call E.told err.old err.new)
+        (error_line (texts words.now) result) }
+    ensures quiet { result ≡ Status.Ok → IsQuiet (sink_call E.told err.old err.new) }
 {
     match perform(alloc, words, files, out, err) {
         Ok(()) => Status::Ok,
@@ -122,16 +136,18 @@ fn answer<F: Files, O: Sink, E: Sink>(
     }
 }
 
-/// Does all that the program does: takes the words of the command line, the files, and the sinks for
-/// the output and for the line of an error, and says how it ended.
+/// Does all that the program does: takes the words of the command line, the files, and the sinks
+/// for the output and for the line of an error, and says how it ended.
 ///
 /// The words are `compile FILE --out FILE`, which saves the bundle of a source,
 /// `run FILE --out FILE --scen FILE`, its options in any order, which also prints the bundle's run
-/// under a scenario, or `exec FILE --scen FILE`, which prints the run of a bundle. The source is plain
-/// and has at most 262,144 bytes; the scenario is plain and has at most 4,194,304; the bundle is that
-/// of a plain program and has at most 67,108,864. The rows go up to the scenario's horizon in
-/// microseconds and with it, each line put on `out` in one piece. Every other answer than Ok puts its
-/// line on `err`. NoMemory may come in place of any answer but Usage and SaveFailed.
+/// under a scenario, or `exec FILE --scen FILE`, which prints the run of a bundle. The file that is
+/// saved is the spelling of a bundle that realises the program, as it is placed and scheduled; of a
+/// program what is printed is the text of its logical rows. The source is plain and has at most
+/// 262,144 bytes; the scenario is plain and has at most 4,194,304; the bundle is that of a plain
+/// program and has at most 67,108,864. The rows go up to the scenario's horizon in microseconds and
+/// with it, each line put on `out` in one piece. Every other answer than Ok puts its line on `err`.
+/// NoMemory may come in place of any answer but Usage and SaveFailed.
 pub fn tdl<F: Files, O: Sink, E: Sink>(
     alloc: Global,
     words: &[String],
@@ -139,34 +155,34 @@ pub fn tdl<F: Files, O: Sink, E: Sink>(
     out: &mut O,
     err: &mut E,
 ) -> Status
-    // Ok: the file that was saved is the spelling of a bundle that realises the program, and what was
-    // printed is the run of that bundle, or of the bundle that was read. Of a program it is the text of
-    // its logical rows.
-    ensures compiles { (w : ℕ) → result ≡ Status.Ok → call_of (texts words.now) ≡ Some (Call.Compile w) → Compiles (files_call F.holds F.faults F.failed_loads F.failed_saves files.old files.new) (texts words.now) w × IsSilent (sink_call O.contents O.faults out.old out.new) }
-    ensures runs { (w v : ℕ) → result ≡ Status.Ok → call_of (texts words.now) ≡ Some (Call.Run w v) → Runs (files_call F.holds F.faults F.failed_loads F.failed_saves files.old files.new) (texts words.now) (sink_call O.contents O.faults out.old out.new) w v }
-    ensures executes { (v : ℕ) → result ≡ Status.Ok → call_of (texts words.now) ≡ Some (Call.Exec v) → Executes (files_call F.holds F.faults F.failed_loads F.failed_saves files.old files.new) (texts words.now) (sink_call O.contents O.faults out.old out.new) v × IsUnchanged (files_call F.holds F.faults F.failed_loads F.failed_saves files.old files.new) }
+    // Ok: what was saved realises the program, and what was printed is the run of that bundle.
+    ensures compiles { (w : ℕ) → result ≡ Status.Ok
+        → call_in (texts words.now) ≡ Some (Call.Compile w)
+        → Compiles (files_call F.told files.old files.new) (texts words.now) w
+        × IsSilent (sink_call O.told out.old out.new) }
+    ensures runs { (w v : ℕ) → result ≡ Status.Ok
+        → call_in (texts words.now) ≡ Some (Call.Run w v)
+        → Runs (files_call F.told files.old files.new) (texts words.now)
+        (sink_call O.told out.old out.new) w v }
+    ensures executes { (v : ℕ) → result ≡ Status.Ok
+        → call_in (texts words.now) ≡ Some (Call.Exec v)
+        → Executes (files_call F.told files.old files.new) (texts words.now)
+        (sink_call O.told out.old out.new) v
+        × IsUnchanged (files_call F.told files.old files.new) }
 
-    // Each other answer comes only where its cause is, and no earlier step refused.
-    ensures usage { (result ≡ Status.Usage) ↔ (call_of (texts words.now) ≡ None) }
-    ensures load_failed { (call : Call) (w : ℕ) → call_of (texts words.now) ≡ Some call → result ≡ Status.LoadFailed w → IsLoadFault (files_call F.holds F.faults F.failed_loads F.failed_saves files.old files.new) (texts words.now) call w }
-    ensures too_long { (call : Call) (w : ℕ) → call_of (texts words.now) ≡ Some call → result ≡ Status.TooLong w → IsTooLong (F.holds files.old) (texts words.now) call w }
-    ensures bad_form { (call : Call) (w : ℕ) → call_of (texts words.now) ≡ Some call → result ≡ Status.BadForm w → IsOfNoForm (F.holds files.old) (texts words.now) call w }
-    ensures write_failed { result ≡ Status.WriteFailed → Rose (O.faults out.old) (O.faults out.new) }
-    ensures save_failed { (call : Call) (w : ℕ) → call_of (texts words.now) ≡ Some call → result ≡ Status.SaveFailed w → IsSaveFault (files_call F.holds F.faults F.failed_loads F.failed_saves files.old files.new) (texts words.now) call w }
+    // Each answer has its cause, and leaves the files and `out` as it says.
+    ensures usage { (result ≡ Status.Usage) ↔ (call_in (texts words.now) ≡ None) }
+    ensures says { AnswerSays (files_call F.told files.old files.new) (texts words.now)
+        (sink_call O.told out.old out.new) result }
 
     // Where the files tell what they hold, the answer that is due comes, or that of a fault.
-    ensures exactly { (held : Held) (status : Status) → F.holds files.old ≡ Some held → IsDue held (texts words.now) status → IsFault result ⊎ (result ≡ status) }
-
-    // What the files and `out` hold behind each answer. No file changes but the one that is saved.
-    ensures unchanged { IsRefusal result → IsUnchanged (files_call F.holds F.faults F.failed_loads F.failed_saves files.old files.new) }
-    ensures silent { IsRefusal result → IsSilent (sink_call O.contents O.faults out.old out.new) }
-    ensures silent_save { (w : ℕ) → result ≡ Status.SaveFailed w → IsSilent (sink_call O.contents O.faults out.old out.new) }
-    ensures written_part { (call : Call) → call_of (texts words.now) ≡ Some call → result ≡ Status.WriteFailed → IsPartDone (files_call F.holds F.faults F.failed_loads F.failed_saves files.old files.new) (texts words.now) call (sink_call O.contents O.faults out.old out.new) }
-    ensures printed_part { (call : Call) → call_of (texts words.now) ≡ Some call → result ≡ Status.NoMemory → (IsUnchanged (files_call F.holds F.faults F.failed_loads F.failed_saves files.old files.new) × IsSilent (sink_call O.contents O.faults out.old out.new)) ⊎ IsPartDone (files_call F.holds F.faults F.failed_loads F.failed_saves files.old files.new) (texts words.now) call (sink_call O.contents O.faults out.old out.new) }
+    ensures exactly { (held : Held) (status : Status) → (F.told files.old).holds ≡ Some held
+        → IsDue held (texts words.now) status → IsFault result ⊎ (result ≡ status) }
 
     // Every answer but Ok puts its line on `err` once.
-    ensures line { result ≢ Status.Ok → IsSaid (sink_call E.contents E.faults err.old err.new) (error_line (texts words.now) result) }
-    ensures quiet { result ≡ Status.Ok → IsQuiet (sink_call E.contents E.faults err.old err.new) }
+    ensures line { result ≢ Status.Ok
+        → IsSaid (sink_call E.told err.old err.new) (error_line (texts words.now) result) }
+    ensures quiet { result ≡ Status.Ok → IsQuiet (sink_call E.told err.old err.new) }
 {
     answer(alloc, words, files, out, err)
 }

@@ -1,3 +1,4 @@
+-- Bytes that grow at their end.
 use Rattle.std.specs.Prelude.{◌≡◌, ℕ, List, length, take}
 
 -- the bytes begin with those that were there before

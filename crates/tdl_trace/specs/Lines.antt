@@ -1,3 +1,4 @@
+-- The lines in which rows are printed.
 use Rattle.std.specs.Prelude.{ℕ, ◌+◌, ◌/◌, ◌%◌, nat_lt, if◌then◌else◌, ℤ, List, [], ◌∷◌, ◌++◌, Option, option_map, option_and_then, unwrap_or, slice_get, find, codes, ◌==◌}
 use Rattle.std.specs.List.{flat_map}
 use Rattle.std.specs.Fmt.{decimal, signed_decimal}
@@ -38,7 +39,8 @@ mode_name names m mode = or_empty (option_and_then (λ n. slice_get n.modes mode
 
 -- the name of actuator a of module m
 abbrev pub actuator_name : Names → ℕ → ℕ → Bytes
-actuator_name names m a = or_empty (option_map (λ n. n.name) (option_and_then (λ n. slice_get n.actuators a) (module_at names m)))
+actuator_name names m a =
+    or_empty (option_map (λ n. n.name) (option_and_then (λ n. slice_get n.actuators a) (module_at names m)))
 
 -- the name of task t of module m
 abbrev pub task_name : Names → ℕ → ℕ → Bytes
@@ -46,7 +48,8 @@ task_name names m t = or_empty (option_map (λ n. n.name) (task_at names m t))
 
 -- the name of output o of task t of module m
 abbrev pub output_name : Names → ℕ → ℕ → ℕ → Bytes
-output_name names m t o = or_empty (option_map (λ n. n.name) (option_and_then (λ n. slice_get n.outputs o) (task_at names m t)))
+output_name names m t o =
+    or_empty (option_map (λ n. n.name) (option_and_then (λ n. slice_get n.outputs o) (task_at names m t)))
 
 -- the name of sensor k of module m
 abbrev pub sensor_name : Names → ℕ → ℕ → Bytes
@@ -61,7 +64,7 @@ why_name Clash = codes "Clash"
 why_name Budget = codes "Budget"
 why_name Lost = codes "Lost"
 
--- a number behind a space
+-- a number after a space
 abbrev pub operand : ℕ → Bytes
 operand n = codes " " ++ decimal n
 
@@ -97,21 +100,25 @@ value_end v = codes " " ++ signed_decimal v ++ codes "\n"
 
 -- the printed line of a row, with its line end
 abbrev pub line_of : Names → Shown → Bytes
-line_of names (Shown.Committed at node m t o v) =
-    head_of names at node (codes " port ") ++ module_name names m ++ codes "." ++ task_name names m t ++ codes "." ++ output_name names m t o ++ value_end v
-line_of names (Shown.Updated at node m a v) =
+line_of names (Shown.Port at node m t o v) =
+    head_of names at node (codes " port ") ++ module_name names m ++ codes "." ++ task_name names m t ++ codes "."
+    ++ output_name names m t o ++ value_end v
+line_of names (Shown.Act at node m a v) =
     head_of names at node (codes " act ") ++ module_name names m ++ codes "." ++ actuator_name names m a ++ value_end v
-line_of names (Shown.Entered at node m mode) =
+line_of names (Shown.Mode at node m mode) =
     head_of names at node (codes " mode ") ++ module_name names m ++ codes " " ++ mode_name names m mode ++ codes "\n"
-line_of names (Shown.Sampled at node m k v) =
+line_of names (Shown.Sense at node m k v) =
     head_of names at node (codes " sense ") ++ module_name names m ++ codes "." ++ sensor_name names m k ++ value_end v
-line_of names (Shown.Trapped at node why) = head_of names at node (codes " trap ") ++ why_name why ++ codes "\n"
-line_of names (Shown.Stepped at node m block index op a b) =
-    head_of names at node (codes " step ") ++ module_name names m ++ operand block ++ operand index ++ codes " " ++ instruction_text op a b ++ codes "\n"
-line_of names (Shown.Sent at node m mode invocation frame) =
-    head_of names at node (codes " send ") ++ module_name names m ++ codes " " ++ mode_name names m mode ++ operand invocation ++ codes " " ++ hex_of frame ++ codes "\n"
+line_of names (Shown.Trap at node why) = head_of names at node (codes " trap ") ++ why_name why ++ codes "\n"
+line_of names (Shown.Step at node m block index op a b) =
+    head_of names at node (codes " step ") ++ module_name names m ++ operand block ++ operand index ++ codes " "
+    ++ instruction_text op a b ++ codes "\n"
+line_of names (Shown.Send at node m mode invocation frame) =
+    head_of names at node (codes " send ") ++ module_name names m ++ codes " " ++ mode_name names m mode
+    ++ operand invocation ++ codes " " ++ hex_of frame ++ codes "\n"
 line_of names (Shown.Ran at node m t from) =
-    head_of names at node (codes " ran ") ++ module_name names m ++ codes "." ++ task_name names m t ++ operand from ++ codes "\n"
+    head_of names at node (codes " ran ") ++ module_name names m ++ codes "." ++ task_name names m t ++ operand from
+    ++ codes "\n"
 
 -- the lines of rows, in order
 unfoldable pub text_of : Names → List Shown → Bytes

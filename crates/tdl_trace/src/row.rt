@@ -5,7 +5,7 @@ use std::marker::Model;
 use tdl_base::{ModeId, ModuleId, NoMemory, NodeId, TaskId, Us};
 
 /// One thing that a run shows, at an instant and on a node.
-#[derive(Clone, Copy, Debug)]
+#[derive(Clone, Copy, Debug, PartialEq, Eq)]
 pub enum Row {
     /// An output was committed.
     Port {

@@ -3,7 +3,7 @@
 pub enum Why {
     /// A frame or an end of a job that is not done.
     Late,
-    /// A release into a slot that is not idle.
+    /// A task was released again before its job ended.
     Busy,
     /// Two windows on one processor, or two frames on the bus.
     Clash,

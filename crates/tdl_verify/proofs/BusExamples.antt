@@ -86,7 +86,7 @@ receiver = record {
   blocks = record { phase = 1; code = e.Take 0 ∷ e.Return ∷ [] } ∷ [];
 }
 
--- a node with the stub, behind the frame's arrival at 8
+-- a node with the stub, after the frame's arrival at 8
 abbrev receiving : NodeNow
 receiving =
     node_received 8 (executed_in 1)

@@ -8,12 +8,8 @@ use Rattle.std.proofs.lemmas.Bool.{and_parts}
 use Rattle.tdl_image.specs.declared.hosted.ImageWindow.{ImageWindow}
 use Rattle.tdl_verify.specs.States.{HostNow}
 use Rattle.tdl_verify.specs.Micros.{is_live, is_job_of}
+pub use Rattle.tdl_verify.specs.Covered.{unit}
 use Rattle.tdl_verify.specs.Covered.{is_own, only_if, covered, covered_by}
-
--- 1 where the test holds, else 0
-abbrev pub unit : Bool → ℕ
-unit true = 1
-unit false = 0
 
 -- how many windows of the job are live
 abbrev own_live : ℕ → ℕ → ℕ → HostNow → List ImageWindow → ℕ

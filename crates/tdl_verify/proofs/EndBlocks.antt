@@ -7,9 +7,11 @@ use Rattle.tdl_trace.specs.Shown.{Shown}
 use Rattle.tdl_ecode.specs.declared.instr.EInstr.{EInstr}
 use Rattle.tdl_ecode.specs.declared.instr.EInstr.TheVariants as e
 use Rattle.tdl_image.specs.declared.hosted.Hosted.{Hosted}
-use Rattle.tdl_verify.specs.States.{Slot, TaskNow, HostNow, Part, Times, Sensed}
-use Rattle.tdl_verify.specs.Turns.{Acted, Spot, code_at, ended, output_rows}
+use Rattle.tdl_base.specs.Sensed.{Sensed}
+use Rattle.tdl_verify.specs.States.{Slot, TaskNow, HostNow, Part, Times}
+use Rattle.tdl_verify.specs.Turns.{Acted, Spot, code_at, end_acts, output_rows}
 use Rattle.tdl_verify.specs.Runs.{is_plain}
+pub use Rattle.tdl_verify.specs.Ends.{committed, committed_rows, NotReady, NoneReady, ended_tasks, ended_rows}
 use Rattle.tdl_verify.proofs.Leads.{Leads, nothing, leads_on, one_on, at_seam, changed-seam}
 
 -- the code has these instructions from an index on
@@ -17,7 +19,7 @@ abbrev pub HasAt : List EInstr → ℕ → List EInstr → Type 0
 HasAt code pc [] = Unit {0}
 HasAt code pc (i ∷ is) = (slice_get code pc ≡ Some i) × HasAt code (suc pc) is
 
--- a code that has joined instructions has both, one behind the other
+-- a code that has joined instructions has both, one after the other
 pub has-append : (code : List EInstr) (pc : ℕ) (is js : List EInstr) →
     HasAt code pc (is ++ js) → HasAt code pc is × HasAt code (pc + length is) js
 has-append code pc [] js h = (tt, let e : pc ≡ pc + 0 = omega arith in subst (λ n. HasAt code n js) e h)
@@ -26,7 +28,7 @@ has-append code pc (i ∷ is) js h =
     let e : suc pc + length is ≡ pc + suc (length is) = omega arith in
     ((h.0, rest.0), subst (λ n. HasAt code n js) e rest.1)
 
--- joined instructions have the second ones behind the first
+-- joined instructions have the second ones after the first
 pub has-self : (front is : List EInstr) → HasAt (front ++ is) (length front) is
 has-self front [] = tt
 has-self front (i ∷ is) =
@@ -34,51 +36,17 @@ has-self front (i ∷ is) =
     let l : length (front ++ i ∷ []) ≡ suc (length front) = omega (arith, length-append front (i ∷ [])) in
     (at_seam front i is, subst₂ (λ c n. HasAt c n is) (sym a) l (has-self (front ++ i ∷ []) is))
 
--- a task after its end: a done job is committed, and the slot is idle
-abbrev pub committed : TaskNow → TaskNow
-committed u = by_slot u.slot
-  where
-    by_slot : Slot → TaskNow
-    by_slot (Slot.Done mode invocation outputs) = record u { outputs = outputs; slot = Slot.Idle }
-    by_slot slot = u
-
--- the rows of the end of task t
-abbrev pub committed_rows : ℕ → ℕ → ℕ → ℕ → TaskNow → List Shown
-committed_rows x node m t u = by_slot u.slot
-  where
-    by_slot : Slot → List Shown
-    by_slot (Slot.Done mode invocation outputs) = output_rows x node m t outputs
-    by_slot slot = []
-
--- the slot has no job that is not done
-abbrev pub NotReady : Slot → Type 0
-NotReady (Slot.Ready mode invocation left cells) = ⊥
-NotReady slot = Unit {0}
-
 -- the rows of outputs are all plain
 pub plain-outputs : (x node m t n : ℕ) (outputs : List ℤ) →
-    filter is_plain (numbered n (λ o v. Shown.Committed x node m t o v) outputs)
-    ≡ numbered n (λ o v. Shown.Committed x node m t o v) outputs
+    filter is_plain (numbered n (λ o v. Shown.Port x node m t o v) outputs)
+    ≡ numbered n (λ o v. Shown.Port x node m t o v) outputs
 plain-outputs x node m t n [] = refl
 plain-outputs x node m t n (v ∷ vs) =
-    ap (λ rs. Shown.Committed x node m t n v ∷ rs) (plain-outputs x node m t (suc n) vs)
+    ap (λ rs. Shown.Port x node m t n v ∷ rs) (plain-outputs x node m t (suc n) vs)
 
 -- the numbers that pass a test, of tasks from n on
 abbrev pub passing : {A : Type 0} → (ℕ → Bool) → ℕ → List A → List ℕ
 passing p n tasks = joined (numbered n (λ t task. if p t then t ∷ [] else []) tasks)
-
--- no task whose number passes has a job that is not done
-abbrev pub NoneReady : (ℕ → Bool) → ℕ → List TaskNow → Type 0
-NoneReady p n [] = Unit {0}
-NoneReady p n (u ∷ us) = (p n ≡ true → NotReady u.slot) × NoneReady p (suc n) us
-
--- the tasks after the ends of those whose numbers pass
-abbrev pub ended_tasks : (ℕ → Bool) → ℕ → List TaskNow → List TaskNow
-ended_tasks p n us = numbered n (λ t u. if p t then committed u else u) us
-
--- the rows of these ends
-abbrev pub ended_rows : ℕ → ℕ → ℕ → (ℕ → Bool) → ℕ → List TaskNow → List Shown
-ended_rows x node m p n us = joined (numbered n (λ t u. if p t then committed_rows x node m t u else []) us)
 
 module _ (x node : ℕ) (sensed : Sensed) (times : Times) (h : Hosted) (b : ℕ) (front back : List Part) where
   -- the parts with this state of the module
@@ -96,10 +64,10 @@ module _ (x node : ℕ) (sensed : Sensed) (times : Times) (h : Hosted) (b : ℕ)
   -- an End of task n commits it and goes on
   Ends : HostNow → ℕ → List TaskNow → List TaskNow → ℕ → TaskNow → Type 0
   Ends s pc ds us n u =
-      ended x node h (with_tasks s (ds ++ u ∷ us)) pc n
+      end_acts x node h (with_tasks s (ds ++ u ∷ us)) pc n
       ≡ Acted.On (Part.Host h (with_tasks s (ds ++ committed u ∷ us))) (committed_rows x node h.number.0 n u) (suc pc)
 
-  -- the End of the task behind others commits it, where its slot has no job that is not done
+  -- the End of the task after others commits it, where its slot has no job that is not done
   ended-slot : (s : HostNow) (pc : ℕ) (ds us : List TaskNow) (outputs : List ℤ) (slot : Slot) (released : ℕ) →
       NotReady slot →
       Ends s pc ds us (length ds) (record { outputs = outputs; slot = slot; released = released })

@@ -29,7 +29,15 @@ reads_sensor = record { instrs = instr.Load (Sensor 0) ∷ [] }
 
 -- inc: o := o + a, with a worst case of 2 us
 abbrev inc : TaskTable
-inc = record { name = codes "inc"; worst = 2; inputs = Int ∷ []; outputs = record { kind = Int; name = codes "o"; initial = pos 10 } ∷ []; locals = []; body = adds }
+inc = record {
+  name = codes "inc";
+  worst = 2;
+  inputs = Int ∷ [];
+  outputs =
+      record { kind = Int; name = codes "o"; initial = pos 10 } ∷ [];
+  locals = [];
+  body = adds;
+}
 
 -- the blocks of one mode with a period of 5 us
 abbrev blocks : List Block
@@ -75,7 +83,8 @@ counting windows = counter 0 (codes "main" ∷ []) (first_release ∷ []) [] win
 
 -- modules on the one node n1
 abbrev on_one : ℕ → List Hosted → Bundle
-on_one declared hosted = record { images = record { node = codes "n1"; declared = declared; hosted = hosted; stubs = [] } ∷ [] }
+on_one declared hosted =
+    record { images = record { node = codes "n1"; declared = declared; hosted = hosted; stubs = [] } ∷ [] }
 
 -- P alone, with a processor window of this length
 abbrev alone : (declared length : ℕ) → Bundle
@@ -90,17 +99,18 @@ worst m t k = 2
 
 -- the outputs appear at 5 and 10
 counts_on : plain_rows (machine_run (alone 11 2) 10 ones worst no_loss) ≡
-    Shown.Entered 0 0 0 0 ∷ Shown.Committed 5 0 0 0 0 (pos 11) ∷ Shown.Committed 10 0 0 0 0 (pos 12) ∷ []
+    Shown.Mode 0 0 0 0 ∷ Shown.Port 5 0 0 0 0 (pos 11) ∷ Shown.Port 10 0 0 0 0 (pos 12) ∷ []
 unfolding turn instant next_instant run_to int_wrap
 counts_on = refl
 
 -- a window that is a microsecond short: the job is late
-is_late : plain_rows (machine_run (alone 11 1) 5 ones worst no_loss) ≡ Shown.Entered 0 0 0 0 ∷ Shown.Trapped 5 0 why.Late ∷ []
+is_late : plain_rows (machine_run (alone 11 1) 5 ones worst no_loss) ≡ Shown.Mode 0 0 0 0 ∷ Shown.Trap 5 0 why.Late ∷ []
 unfolding turn instant next_instant run_to int_wrap
 is_late = refl
 
 -- a declared count that is one too low
-is_over : plain_rows (machine_run (alone 10 2) 5 ones worst no_loss) ≡ Shown.Entered 0 0 0 0 ∷ Shown.Trapped 5 0 why.Budget ∷ []
+is_over : plain_rows (machine_run (alone 10 2) 5 ones worst no_loss) ≡ Shown.Mode 0 0 0 0 ∷ Shown.Trap 5 0 why.Budget
+    ∷ []
 unfolding turn instant next_instant run_to int_wrap
 is_over = refl
 
@@ -114,15 +124,19 @@ never_ending =
     ∷ record { phase = 3; code = e.Mode 0 ∷ e.Future 0 1 ∷ e.Return ∷ [] }
     ∷ []
 
-is_busy : plain_rows (machine_run (on_one 11 (counter 0 (codes "main" ∷ []) (first_release ∷ []) [] (on_cpu 0 0 2 ∷ []) never_ending ∷ [])) 5 ones worst no_loss) ≡
-    Shown.Entered 0 0 0 0 ∷ Shown.Trapped 5 0 why.Busy ∷ []
+is_busy : plain_rows
+    (machine_run
+    (on_one 11 (counter 0 (codes "main" ∷ []) (first_release ∷ []) [] (on_cpu 0 0 2 ∷ []) never_ending ∷ [])) 5 ones
+    worst no_loss) ≡
+    Shown.Mode 0 0 0 0 ∷ Shown.Trap 5 0 why.Busy ∷ []
 unfolding turn instant next_instant run_to int_wrap
 is_busy = refl
 
 -- windows of two modules that are live in one microsecond
 two_live : plain_rows (machine_run (on_one 22
-    (counting (on_cpu 0 0 2 ∷ []) ∷ counter 1 (codes "main" ∷ []) (first_release ∷ []) [] (on_cpu 0 1 2 ∷ []) blocks ∷ [])) 5 ones worst no_loss) ≡
-    Shown.Entered 0 0 0 0 ∷ Shown.Entered 0 0 1 0 ∷ Shown.Trapped 2 0 why.Clash ∷ []
+    (counting (on_cpu 0 0 2 ∷ []) ∷ counter 1 (codes "main" ∷ []) (first_release ∷ []) [] (on_cpu 0 1 2 ∷ []) blocks ∷
+    [])) 5 ones worst no_loss) ≡
+    Shown.Mode 0 0 0 0 ∷ Shown.Mode 0 0 1 0 ∷ Shown.Trap 2 0 why.Clash ∷ []
 unfolding turn instant next_instant run_to int_wrap
 two_live = refl
 
@@ -138,7 +152,11 @@ reader_blocks =
     ∷ []
 
 abbrev reads_output : Code
-reads_output = record { instrs = instr.Load (Port (record { «module» = record { 0 = 0 }; task = record { 0 = 0 }; output = 0 })) ∷ [] }
+reads_output =
+    record {
+      instrs = instr.Load (Port (record { «module» = record { 0 = 0 }; task = record { 0 = 0 }; output = 0 })) ∷
+          [];
+    }
 
 abbrev reader : Hosted
 reader = record {
@@ -165,7 +183,12 @@ abbrev stub_with : List Receive → List Block → Stub
 stub_with entries blocks = record {
   number = record { 0 = 0 };
   name = codes "P";
-  tasks = record { number = 0; name = codes "inc"; outputs = record { kind = Int; name = codes "o"; initial = pos 10 } ∷ [] } ∷ [];
+  tasks = record {
+    number = 0;
+    name = codes "inc";
+    outputs = record { kind = Int; name = codes "o"; initial = pos 10 }
+        ∷ [];
+  } ∷ [];
   entries = entries;
   blocks = blocks;
 }
@@ -181,9 +204,12 @@ on_two p s = record {
 }
 
 -- the output appears on both nodes at 5, and C reads it at the same instant
-both_show : plain_rows (machine_run (on_two (counting (on_cpu 0 0 2 ∷ on_bus 0 4 1 ∷ [])) (stub_with (first_entry ∷ []) (take_block 0 ∷ []))) 5 ones worst no_loss) ≡
-    Shown.Entered 0 0 0 0 ∷ Shown.Entered 0 1 1 0
-    ∷ Shown.Committed 5 0 0 0 0 (pos 11) ∷ Shown.Committed 5 1 0 0 0 (pos 11) ∷ Shown.Updated 5 1 1 0 (pos 11) ∷ []
+both_show : plain_rows
+    (machine_run
+    (on_two (counting (on_cpu 0 0 2 ∷ on_bus 0 4 1 ∷ [])) (stub_with (first_entry ∷ []) (take_block 0 ∷ []))) 5 ones
+    worst no_loss) ≡
+    Shown.Mode 0 0 0 0 ∷ Shown.Mode 0 1 1 0
+    ∷ Shown.Port 5 0 0 0 0 (pos 11) ∷ Shown.Port 5 1 0 0 0 (pos 11) ∷ Shown.Act 5 1 1 0 (pos 11) ∷ []
 unfolding turn instant next_instant run_to int_wrap
 both_show = refl
 
@@ -201,9 +227,10 @@ abbrev above_one : Code
 above_one = record { instrs = instr.Load (Sensor 0) ∷ instr.Const (pos 1) ∷ instr.Bin Greater ∷ [] }
 
 not_invoked : plain_rows (machine_run (on_two
-    (counter 0 (codes "main" ∷ []) (first_release ∷ []) (above_one ∷ []) (on_cpu 0 0 2 ∷ on_bus 0 4 1 ∷ []) guarded_blocks)
+    (counter 0 (codes "main" ∷ []) (first_release ∷ []) (above_one ∷ []) (on_cpu 0 0 2 ∷ on_bus 0 4 1 ∷ [])
+    guarded_blocks)
     (stub_with (first_entry ∷ []) (take_block 0 ∷ []))) 5 ones worst no_loss) ≡
-    Shown.Entered 0 0 0 0 ∷ Shown.Entered 0 1 1 0 ∷ Shown.Updated 5 1 1 0 (pos 10) ∷ []
+    Shown.Mode 0 0 0 0 ∷ Shown.Mode 0 1 1 0 ∷ Shown.Act 5 1 1 0 (pos 10) ∷ []
 unfolding turn instant next_instant run_to int_wrap
 not_invoked = refl
 
@@ -222,12 +249,22 @@ switching_blocks =
     ∷ []
 
 switches : plain_rows (machine_run (on_two
-    (counter 0 (codes "main" ∷ codes "fast" ∷ []) (first_release ∷ record { mode = 1; invocation = 1; call = 0 } ∷ []) []
+    (counter 0 (codes "main" ∷ codes "fast" ∷ []) (first_release ∷ record { mode = 1; invocation = 1; call = 0 } ∷ [])
+    []
     (on_cpu 0 0 2 ∷ on_bus 0 4 1 ∷ on_cpu 1 0 2 ∷ on_bus 1 2 1 ∷ []) switching_blocks)
-    (stub_with (first_entry ∷ record { mode = 1; invocation = 1; task = 0; delta = 0; block = 1 } ∷ []) (take_block 0 ∷ take_block 1 ∷ []))) 8 ones worst no_loss) ≡
-    Shown.Entered 0 0 0 0 ∷ Shown.Entered 0 1 1 0
-    ∷ Shown.Committed 5 0 0 0 0 (pos 11) ∷ Shown.Entered 5 0 0 1
-    ∷ Shown.Committed 5 1 0 0 0 (pos 11) ∷ Shown.Updated 5 1 1 0 (pos 11)
-    ∷ Shown.Committed 8 0 0 0 0 (pos 12) ∷ Shown.Committed 8 1 0 0 0 (pos 12) ∷ []
+    (stub_with (first_entry ∷ record { mode = 1; invocation = 1; task = 0; delta = 0; block = 1 } ∷ [])
+    (take_block 0 ∷ take_block 1 ∷ []))) 8 ones worst no_loss) ≡
+    Shown.Mode 0 0 0 0 ∷ Shown.Mode 0 1 1 0
+    ∷ Shown.Port 5 0 0 0 0 (pos 11) ∷ Shown.Mode 5 0 0 1
+    ∷ Shown.Port 5 1 0 0 0 (pos 11) ∷ Shown.Act 5 1 1 0 (pos 11)
+    ∷ Shown.Port 8 0 0 0 0 (pos 12) ∷ Shown.Port 8 1 0 0 0 (pos 12) ∷ []
 unfolding turn instant next_instant run_to int_wrap
 switches = refl
+
+-- a frame that arrives at 3, and a delta of 2: the stub commits at 5 and not before
+commits_later : plain_rows (machine_run (on_two (counting (on_cpu 0 0 2 ∷ on_bus 0 2 1 ∷ []))
+    (stub_with (record first_entry { delta = 2 } ∷ []) (take_block 0 ∷ []))) 5 ones worst no_loss) ≡
+    Shown.Mode 0 0 0 0 ∷ Shown.Mode 0 1 1 0
+    ∷ Shown.Port 5 0 0 0 0 (pos 11) ∷ Shown.Port 5 1 0 0 0 (pos 11) ∷ Shown.Act 5 1 1 0 (pos 11) ∷ []
+unfolding turn instant next_instant run_to int_wrap
+commits_later = refl

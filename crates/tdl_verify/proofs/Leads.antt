@@ -1,22 +1,27 @@
 -- The steps of a turn: what one instruction does, and steps one after the other.
 use Rattle.std.proofs.Common.{◌≡◌, ℕ, zero, suc, ◌+◌, ◌≤◌, List, [], ◌∷◌, ◌++◌, length, Some, None, filter, refl, ap, ap₂, sym, ◌∙◌, arith, append_assoc, append-nil}
-use Rattle.std.specs.Prelude.{slice_get, option_and_then, option_map, unwrap_or}
+use Rattle.std.specs.Prelude.{slice_get, option_and_then}
 use Rattle.std.proofs.lemmas.List.Elements.{filter-append}
 use Rattle.tdl_base.specs.Lists.{changed_at}
 use Rattle.tdl_trace.specs.Shown.{Shown}
+use Rattle.tdl_trace.specs.declared.why.Why.{Why}
+use Rattle.tdl_trace.specs.declared.why.Why.TheVariants as why
 use Rattle.tdl_ecode.specs.declared.instr.EInstr.{EInstr}
 use Rattle.tdl_ecode.specs.declared.instr.EInstr.TheVariants.{Call, Release, End, Take, Mode, If, Jump, Future, Return}
-use Rattle.tdl_verify.specs.States.{Part, Times, Sensed, part_number}
-use Rattle.tdl_verify.specs.Turns.{Due, Acted, Spot, Turned, Next, turn, begun, fetched, acted, spent, instr_at, code_at, block_of, taken_out, part_acts, step_row, least_due}
+use Rattle.tdl_base.specs.Sensed.{Sensed}
+use Rattle.tdl_verify.specs.States.{Part, Times, part_number}
+use Rattle.tdl_verify.specs.Turns.{Due, Acted, Spot, Turned, Next, turn, block_begun, fetched, acted, spent, part_instr, code_at, taken_out, part_acts, step_row, least_due}
 use Rattle.tdl_verify.specs.Runs.{is_plain}
+pub use Rattle.tdl_verify.specs.Leads.{Leads}
+use Rattle.tdl_verify.specs.Leads.{block_spot}
 
--- the item behind a front stands at the front's length
+-- the item after a front stands at the front's length
 pub at_seam : {A : Type 0} (front : List A) (p : A) (back : List A) →
     slice_get (front ++ p ∷ back) (length front) ≡ Some p
 at_seam [] p back = refl
 at_seam (a ∷ front) p back = at_seam front p back
 
--- a change at the front's length changes the item behind the front
+-- a change at the front's length changes the item after the front
 pub changed-seam : {A : Type 0} (f : A → A) (front : List A) (p : A) (back : List A) →
     changed_at (length front) f (front ++ p ∷ back) ≡ front ++ f p ∷ back
 changed-seam f [] p back = refl
@@ -40,18 +45,12 @@ module _ (x node : ℕ) (sensed : Sensed) (times : Times) where
   abbrev go : ℕ → Next
   go n = turn n x node sensed times
 
-  -- at most so many instructions lead from one spot and its parts to another, and show these plain rows
-  pub record Leads (most : ℕ) (spot : Spot) (parts : List Part) (spot' : Spot) (parts' : List Part)
-      (plain : List Shown) : Type 0 where
-    pub count : ℕ
-    pub within : count ≤ most
-    pub new : List Shown
-    pub shown : filter is_plain new ≡ plain
-    pub goes : (k : ℕ) (rows : List Shown) →
-        turn (k + count) x node sensed times spot parts rows ≡ turn k x node sensed times spot' parts' (rows ++ new)
+  -- at most so many instructions lead from one spot and its parts to another, with these plain rows
+  abbrev Way : ℕ → Spot → List Part → Spot → List Part → List Shown → Type 0
+  Way most spot parts spot' parts' plain = Leads x node sensed times most spot parts spot' parts' plain
 
   -- no instruction leads from a spot to itself
-  pub nothing : (most : ℕ) (spot : Spot) (parts : List Part) → Leads most spot parts spot parts []
+  pub nothing : (most : ℕ) (spot : Spot) (parts : List Part) → Way most spot parts spot parts []
   nothing most spot parts = record {
     count = 0;
     within = omega arith;
@@ -63,7 +62,7 @@ module _ (x node : ℕ) (sensed : Sensed) (times : Times) where
   -- where one way ends and another begins, the two are one way
   pub leads_on : (n m : ℕ) (s : Spot) (p : List Part) (s1 : Spot) (p1 : List Part) (s2 : Spot) (p2 : List Part)
       (r1 r2 : List Shown) →
-      Leads n s p s1 p1 r1 → Leads m s1 p1 s2 p2 r2 → Leads (n + m) s p s2 p2 (r1 ++ r2)
+      Way n s p s1 p1 r1 → Way m s1 p1 s2 p2 r2 → Way (n + m) s p s2 p2 (r1 ++ r2)
   leads_on n m s p s1 p1 s2 p2 r1 r2 a b = record {
     count = a.count + b.count;
     within = omega (arith, a.within, b.within);
@@ -77,7 +76,7 @@ module _ (x node : ℕ) (sensed : Sensed) (times : Times) where
 
   -- the same way within a greater count
   pub wider : (n m : ℕ) (s : Spot) (p : List Part) (s' : Spot) (p' : List Part) (r : List Shown) →
-      n ≤ m → Leads n s p s' p' r → Leads m s p s' p' r
+      n ≤ m → Way n s p s' p' r → Way m s p s' p' r
   wider n m s p s' p' r le a = record {
     count = a.count;
     within = omega (arith, a.within, le);
@@ -86,7 +85,7 @@ module _ (x node : ℕ) (sensed : Sensed) (times : Times) where
     goes = a.goes;
   }
 
-  -- a turn at an instruction of the part behind the front does what that instruction does
+  -- a turn at an instruction of the part after the front does what that instruction does
   fetch-seam : (front : List Part) (p : Part) (back : List Part) (b pc : ℕ) (i : EInstr) →
       slice_get (code_at b p) pc ≡ Some i →
       (k : ℕ) (rows : List Shown) → go (k + 1) (Spot.In (length front) b pc) (front ++ p ∷ back) rows
@@ -101,12 +100,12 @@ module _ (x node : ℕ) (sensed : Sensed) (times : Times) where
       ∙ ap₂ (λ o j. fetched (go k) x node sensed times (length front) b pc parts rows o j) at
       (ap (option_and_then (λ q. slice_get (code_at b q) pc)) at ∙ has)
 
-  -- an instruction of the part behind the front that goes on at another index
+  -- an instruction of the part after the front that goes on at another index
   pub one_on : (front : List Part) (p : Part) (back : List Part) (b pc : ℕ) (i : EInstr) (q : Part)
       (more : List Shown) (pc' : ℕ) →
       slice_get (code_at b p) pc ≡ Some i →
       part_acts x node sensed times (front ++ p ∷ back) pc p i ≡ Acted.On q more pc' →
-      Leads 1 (Spot.In (length front) b pc) (front ++ p ∷ back) (Spot.In (length front) b pc') (front ++ q ∷ back)
+      Way 1 (Spot.In (length front) b pc) (front ++ p ∷ back) (Spot.In (length front) b pc') (front ++ q ∷ back)
       (filter is_plain more)
   one_on front p back b pc i q more pc' has acts = record {
     count = 1;
@@ -121,12 +120,12 @@ module _ (x node : ℕ) (sensed : Sensed) (times : Times) where
         (append_assoc rows step more);
   }
 
-  -- an instruction of the part behind the front that ends the block
+  -- an instruction of the part after the front that ends the block
   pub one_over : (front : List Part) (p : Part) (back : List Part) (b pc : ℕ) (i : EInstr) (q : Part)
       (more : List Shown) →
       slice_get (code_at b p) pc ≡ Some i →
       part_acts x node sensed times (front ++ p ∷ back) pc p i ≡ Acted.Over q more →
-      Leads 1 (Spot.In (length front) b pc) (front ++ p ∷ back) Spot.Between (front ++ q ∷ back) (filter is_plain more)
+      Way 1 (Spot.In (length front) b pc) (front ++ p ∷ back) Spot.Between (front ++ q ∷ back) (filter is_plain more)
   one_over front p back b pc i q more has acts = record {
     count = 1;
     within = omega arith;
@@ -139,23 +138,35 @@ module _ (x node : ℕ) (sensed : Sensed) (times : Times) where
         ∙ ap₂ (λ ps rs. go k Spot.Between ps rs) (changed-seam (λ r. q) front p back) (append_assoc rows step more);
   }
 
-  -- the beginning of the block of a due trigger
-  abbrev block_spot : Due → List Part → Spot
-  block_spot d parts = Spot.In d.part (unwrap_or (option_map (block_of d) (slice_get parts d.part)) 0) 0
+  -- an instruction of the part after the front that stops the turn
+  pub one_stop : (front : List Part) (p : Part) (back : List Part) (b pc : ℕ) (i : EInstr) (reason : Why) →
+      slice_get (code_at b p) pc ≡ Some i →
+      part_acts x node sensed times (front ++ p ∷ back) pc p i ≡ Acted.Stop reason → (k : ℕ) (rows : List Shown) →
+      go (k + 1) (Spot.In (length front) b pc) (front ++ p ∷ back) rows ≡ Turned.Trapped reason
+  one_stop front p back b pc i reason has acts k rows =
+      fetch-seam front p back b pc i has k rows
+      ∙ ap (acted (go k) (length front) b (front ++ p ∷ back)
+      (rows ++ step_row x node (part_number p) b pc i ∷ [])) acts
+
+  -- where no instruction is left and one is to run, the declared count is spent
+  pub is_spent : (parts : List Part) (part b pc : ℕ) (i : EInstr) (rows : List Shown) →
+      part_instr parts part b pc ≡ Some i → go 0 (Spot.In part b pc) parts rows ≡ Turned.Trapped why.Budget
+  unfolding turn
+  is_spent parts part b pc i rows has = ap spent has
 
   -- between blocks a turn takes the least due trigger out and begins its block, whatever count is left
   between : (parts : List Part) (d : Due) → least_due x parts ≡ Some d → (k : ℕ) (rows : List Shown) →
       go k Spot.Between parts rows ≡ go k (block_spot d parts) (changed_at d.part (taken_out d) parts) rows
   unfolding turn
-  between parts d h zero rows = ap (begun (λ k b pc ps. spent (instr_at ps k b pc)) parts rows) h
+  between parts d h zero rows = ap (block_begun (λ k b pc ps. spent (part_instr ps k b pc)) parts rows) h
   between parts d h (suc n) rows =
-      ap (begun (λ k b pc ps. fetched (go n) x node sensed times k b pc ps rows (slice_get ps k) (instr_at ps k b pc))
+      ap (block_begun
+      (λ k b pc ps. fetched (go n) x node sensed times k b pc ps rows (slice_get ps k) (part_instr ps k b pc))
       parts rows) h
 
   -- the least due trigger is taken out and its block begun, with no instruction
   pub begin : (parts : List Part) (d : Due) → least_due x parts ≡ Some d →
-      Leads 0 Spot.Between parts (Spot.In d.part (unwrap_or (option_map (block_of d) (slice_get parts d.part)) 0) 0)
-      (changed_at d.part (taken_out d) parts) []
+      Way 0 Spot.Between parts (block_spot d parts) (changed_at d.part (taken_out d) parts) []
   begin parts d h = record {
     count = 0;
     within = omega arith;
@@ -171,7 +182,8 @@ module _ (x node : ℕ) (sensed : Sensed) (times : Times) where
   pub finished : (n : ℕ) (parts : List Part) (rows : List Shown) → least_due x parts ≡ None →
       go n Spot.Between parts rows ≡ Turned.Finished parts rows
   unfolding turn
-  finished zero parts rows h = ap (begun (λ k b pc ps. spent (instr_at ps k b pc)) parts rows) h
+  finished zero parts rows h = ap (block_begun (λ k b pc ps. spent (part_instr ps k b pc)) parts rows) h
   finished (suc n) parts rows h =
-      ap (begun (λ k b pc ps. fetched (go n) x node sensed times k b pc ps rows (slice_get ps k) (instr_at ps k b pc))
+      ap (block_begun
+      (λ k b pc ps. fetched (go n) x node sensed times k b pc ps rows (slice_get ps k) (part_instr ps k b pc))
       parts rows) h

@@ -1,5 +1,6 @@
 mod Examples
 mod BusExamples
+mod LogExamples
 pub mod Leads
 pub mod Sweeps
 pub mod WholeTurn
@@ -8,3 +9,7 @@ pub mod Covered
 pub mod JobSlots
 pub mod NodeSends
 pub mod Replaced
+pub mod LiveWindows
+pub mod Releases
+pub mod Arrivals
+pub mod RunLemmas

@@ -4,9 +4,10 @@ use Rattle.std.specs.Prelude.{flat_map}
 use Rattle.std.proofs.lemmas.Grind.{flat_map-append}
 use Rattle.tdl_trace.specs.Shown.{Shown}
 use Rattle.tdl_frame.specs.Frames.{Frame, frame_bytes}
+unfoldable pub use Rattle.tdl_verify.specs.States.{all_parts}
 use Rattle.tdl_verify.specs.States.{NodeNow, Part}
 use Rattle.tdl_verify.specs.Bus.{Flight, Start, starts, one_start, node_start}
-use Rattle.tdl_verify.specs.Runs.{Sending, Sends, invocation_of, put_on, and_sends, all_sends, is_plain}
+use Rattle.tdl_verify.specs.Runs.{Sending, Sends, frame_invocation, put_on, and_sends, all_sends, is_plain}
 use Rattle.tdl_verify.proofs.Sweeps.{append-empty}
 
 -- the starts of all nodes
@@ -70,7 +71,7 @@ sends_one x k (n ∷ more) count frame until one =
         let cut = append-empty l (all_starts x more) (ap rest_of one) in
         let h : s ≡ Start.Sends frame until = ap (head_of s) one in
         record {
-          rows = (Shown.Sent x k frame.owner frame.mode (invocation_of frame) (frame_bytes frame) ∷ []) ++ [];
+          rows = (Shown.Send x k frame.owner frame.mode (frame_invocation frame) (frame_bytes frame) ∷ []) ++ [];
           sendings = (record { number = suc count; at = x; until = until; frame = frame } ∷ []) ++ [];
           is = ap (λ l. and_sends (put_on x k (one_start l) None count) (λ f c. all_sends x (suc k) more f c))
               (e ∙ ap₂ (λ a b. a ∷ b) h cut.0)
@@ -79,10 +80,6 @@ sends_one x k (n ∷ more) count frame until one =
           shown = refl;
           listed = refl;
         }
-
--- the parts of all nodes
-unfoldable pub all_parts : List NodeNow → List Part
-all_parts nodes = flat_map (λ (n : NodeNow). n.parts) nodes
 
 -- the starts of all nodes are those of all parts
 pub starts-parts : (x : ℕ) (nodes : List NodeNow) → all_starts x nodes ≡ flat_map (starts x) (all_parts nodes)

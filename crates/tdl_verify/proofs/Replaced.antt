@@ -1,15 +1,13 @@
 -- The outputs of a stub's tasks after a take.
-use Rattle.std.proofs.Common.{◌≡◌, ℕ, suc, ℤ, List, [], ◌∷◌, length, Bool, true, false, ◌||◌, ◌==◌, refl, ap, sym, ◌∙◌, arith}
-use Rattle.std.specs.Prelude.{if◌then◌else◌}
-use Rattle.std.specs.List.{list_any}
+use Rattle.std.proofs.Common.{◌≡◌, ℕ, suc, ℤ, List, [], ◌∷◌, length, Bool, true, false, ◌||◌, ◌==◌, Some, refl, ap, sym, ◌∙◌, arith}
+use Rattle.std.specs.Prelude.{slice_get, if◌then◌else◌}
 use Rattle.std.proofs.lemmas.Bool.{eqb-true}
 use Rattle.tdl_image.specs.declared.stub.StubTask.{StubTask}
-use Rattle.tdl_verify.specs.States.{stub_outputs}
-use Rattle.tdl_verify.specs.Turns.{replaced_in}
-
--- a stub has a task of this number
-abbrev pub is_numbered : ℕ → List StubTask → Bool
-is_numbered t tasks = list_any (λ (k : StubTask). k.number == t) tasks
+use Rattle.tdl_image.specs.declared.stub.Stub.{Stub}
+use Rattle.tdl_image.specs.declared.stub.Receive.{Receive}
+pub use Rattle.tdl_verify.specs.Laws.{is_numbered}
+use Rattle.tdl_verify.specs.States.{EntryNow, StubNow, Part, stub_outputs}
+use Rattle.tdl_verify.specs.Turns.{Acted, output_rows, replaced_in, take_acts}
 
 -- the outputs of a task that were replaced are the copy
 pub replaced-same : (t : ℕ) (copy : List ℤ) (tasks : List StubTask) (outs : List (List ℤ)) →
@@ -48,3 +46,13 @@ pub replaced-length : (t : ℕ) (copy : List ℤ) (tasks : List StubTask) (outs 
 replaced-length t copy [] outs = refl
 replaced-length t copy (k ∷ ks) [] = refl
 replaced-length t copy (k ∷ ks) (o ∷ os) = ap suc (replaced-length t copy ks os)
+
+-- an entry that is there is taken: its copy becomes the outputs of its task
+pub took-entry : (x node : ℕ) (p : Stub) (s : StubNow) (pc r : ℕ) (e : Receive) (now : EntryNow) →
+    slice_get p.entries r ≡ Some e → slice_get s.entries r ≡ Some now →
+    take_acts x node p s pc r ≡ Acted.On (Part.Outside p (record s {
+      outputs =
+          replaced_in e.task now.copy p.tasks s.outputs;
+    }))
+    (output_rows x node p.number.0 e.task now.copy) (suc pc)
+took-entry x node p s pc r e now a b = rw (a, b) refl

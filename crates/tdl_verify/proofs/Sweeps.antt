@@ -1,14 +1,13 @@
 -- The due triggers of a phase, part by part: which one is the least, and what a phase of all parts comes to.
-use Rattle.std.proofs.Common.{◌≡◌, ℕ, zero, suc, ◌+◌, ◌<◌, List, [], ◌∷◌, ◌++◌, map, length, Some, None, refl, ap, ap₂, sym, ◌∙◌, subst, subst₂, arith, append_assoc}
-use Rattle.tdl_base.specs.Lists.{joined, numbered}
+use Rattle.std.proofs.Common.{◌≡◌, ℕ, zero, suc, ◌+◌, ◌<◌, List, [], ◌∷◌, ◌++◌, length, Some, None, refl, ap, ap₂, sym, ◌∙◌, subst, subst₂, arith, append_assoc}
 use Rattle.tdl_trace.specs.Shown.{Shown}
-use Rattle.tdl_verify.specs.States.{Part, Times, Sensed}
+use Rattle.tdl_base.specs.Sensed.{Sensed}
+use Rattle.tdl_verify.specs.States.{Part, Times}
 use Rattle.tdl_verify.specs.Turns.{Due, Spot, due_of, due_in, least_due}
-use Rattle.tdl_verify.proofs.Leads.{Leads, nothing, leads_on}
-
--- the due triggers of a phase, the first part having this number
-abbrev pub due_from : ℕ → ℕ → ℕ → List Part → List Due
-due_from x phase n parts = joined (numbered n (due_of x phase) parts)
+use Rattle.tdl_verify.specs.Leads.{Leads}
+pub use Rattle.tdl_verify.specs.Sweeps.{due_from, NoneDue, NoneBelow, Move, befores, afters, rows_from, costs_from}
+use Rattle.tdl_verify.specs.Sweeps.{Ran}
+use Rattle.tdl_verify.proofs.Leads.{nothing, leads_on}
 
 -- the due triggers of joined lists of parts
 pub due-append : (x phase n : ℕ) (front back : List Part) →
@@ -21,10 +20,6 @@ due-append x phase n (p ∷ ps) back =
     ∙ sym (append_assoc (due_of x phase n p) (due_from x phase (suc n) ps)
     (due_from x phase (n + suc (length ps)) back))
 
--- nothing of this phase is due there
-abbrev pub NoneDue : ℕ → ℕ → List Part → Type 0
-NoneDue x phase ps = (n : ℕ) → due_from x phase n ps ≡ []
-
 -- nothing is due in joined lists in which nothing is due
 none-append : (x phase : ℕ) (front back : List Part) →
     NoneDue x phase front → NoneDue x phase back → NoneDue x phase (front ++ back)
@@ -35,7 +30,7 @@ none-append x phase front back f b n =
 none-one : (x phase : ℕ) (p : Part) → ((n : ℕ) → due_of x phase n p ≡ []) → NoneDue x phase (p ∷ [])
 none-one x phase p h n = ap (λ os. os ++ []) (h n)
 
--- the first due trigger of a phase is that of the part behind a front in which nothing is due
+-- the first due trigger of a phase is that of the part after a front in which nothing is due
 due_in-first : (x phase : ℕ) (front : List Part) (p : Part) (back : List Part) (d : Due) (more : List Due) →
     NoneDue x phase front → due_of x phase (length front) p ≡ d ∷ more →
     due_in x phase (front ++ p ∷ back) ≡ d ∷ (more ++ due_from x phase (suc (length front)) back)
@@ -44,10 +39,6 @@ due_in-first x phase front p back d more none here =
     due-append x phase 0 front (p ∷ back)
     ∙ ap₂ (λ a n. a ++ (due_of x phase n p ++ due_from x phase (suc n) back)) (none 0) e
     ∙ ap (λ a. a ++ due_from x phase (suc (length front)) back) here
-
--- nothing of a lower phase is due
-abbrev pub NoneBelow : ℕ → ℕ → List Part → Type 0
-NoneBelow x phase parts = (q : ℕ) → q < phase → due_in x q parts ≡ []
 
 -- the least due trigger is the first of the lowest phase that has one
 least_due-first : (x phase : ℕ) (parts : List Part) (d : Due) (more : List Due) → phase < 5 → NoneBelow x phase parts →
@@ -77,7 +68,7 @@ least_none x parts low =
     let e4 = low 4 (omega arith) in
     rw (e0, e1, e2, e3, e4) refl
 
--- the least due trigger is that of the part behind the front, where nothing before it is due, in any phase from 1 to 4
+-- the least due trigger is that of the part after the front, where nothing before it is due, in any phase from 1 to 4
 pub least_at : (x phase : ℕ) (front : List Part) (p : Part) (back : List Part) (d : Due) (more : List Due) →
     0 < phase → phase < 5 → NoneBelow x phase (front ++ p ∷ back) → NoneDue x phase front →
     due_of x phase (length front) p ≡ d ∷ more → least_due x (front ++ p ∷ back) ≡ Some d
@@ -90,64 +81,58 @@ pub append-empty : {A : Type 0} (a b : List A) → a ++ b ≡ [] → (a ≡ []) 
 append-empty [] b h = (refl, h)
 append-empty (c ∷ a) b h = absurd (cc h)
 
+-- a part of which nothing of a lower phase is due can stand for another: nothing lower comes to be due
+pub below-kept : (x phase : ℕ) (front : List Part) (p q : Part) (back : List Part) →
+    NoneBelow x phase (front ++ p ∷ back) → ((r : ℕ) → r < phase → (n : ℕ) → due_of x r n q ≡ []) →
+    NoneBelow x phase (front ++ q ∷ back)
+below-kept x phase front p q back low quiet r lt =
+    let k : ℕ = 0 + length front in
+    let whole = sym (due-append x r 0 front (p ∷ back)) ∙ low r lt in
+    let cut = append-empty (due_from x r 0 front) (due_from x r k (p ∷ back)) whole in
+    let past = append-empty (due_of x r k p) (due_from x r (suc k) back) cut.1 in
+    due-append x r 0 front (q ∷ back)
+    ∙ ap₂ (λ c d. c ++ d) cut.0 (ap₂ (λ c d. c ++ d) (quiet r lt k) past.1)
+
 -- ---- one phase over all parts
 
+-- a move that changes nothing
+unfoldable pub idle_move : (x node : ℕ) (sensed : Sensed) (times : Times) (phase : ℕ) (Fit : List Part → Type 0)
+    (p : Part) → ((q : ℕ) → q < suc phase → (n : ℕ) → due_of x q n p ≡ []) → Move x node sensed times phase Fit
+idle_move x node sensed times phase Fit p quiet = record {
+  before = p;
+  after = p;
+  rows = [];
+  cost = 0;
+  leads = λ front back fit low none. nothing x node sensed times 0 Spot.Between (front ++ p ∷ back);
+  fits = λ front back fit. fit;
+  below = quiet;
+}
+
 module _ (x node : ℕ) (sensed : Sensed) (times : Times) (phase : ℕ) (Fit : List Part → Type 0) where
-  -- a part before and after its step of this phase, with its plain rows and at most so many instructions; `Fit` is what
-  -- the step needs of all parts
-  pub record Move : Type 0 where
-    pub before : Part
-    pub after : Part
-    pub rows : List Shown
-    pub cost : ℕ
-    pub leads : (front back : List Part) →
-        Fit (front ++ before ∷ back) → NoneBelow x phase (front ++ before ∷ back) → NoneDue x phase front →
-        Leads x node sensed times cost Spot.Between (front ++ before ∷ back) Spot.Between (front ++ after ∷ back) rows
-    pub fits : (front back : List Part) → Fit (front ++ before ∷ back) → Fit (front ++ after ∷ back)
-    pub below : (q : ℕ) → q < suc phase → (n : ℕ) → due_of x q n after ≡ []
+  -- the moves of parts in this phase
+  abbrev Moves : Type 0
+  Moves = List (Move x node sensed times phase Fit)
 
   -- the parts before their moves
-  abbrev pub befores : List Move → List Part
-  befores ms = map (λ (a : Move). a.before) ms
+  abbrev starts : Moves → List Part
+  starts ms = befores x node sensed times phase Fit ms
 
-  -- the parts behind their moves
-  abbrev pub afters : List Move → List Part
-  afters ms = map (λ (a : Move). a.after) ms
+  -- the parts after their moves
+  abbrev ends : Moves → List Part
+  ends ms = afters x node sensed times phase Fit ms
 
-  -- the plain rows of moves
-  abbrev pub rows_from : List Move → List Shown
-  rows_from [] = []
-  rows_from (a ∷ ms) = a.rows ++ rows_from ms
+  -- their plain rows
+  abbrev rows : Moves → List Shown
+  rows ms = rows_from x node sensed times phase Fit ms
 
-  -- the greatest number of instructions of moves
-  abbrev pub costs_from : List Move → ℕ
-  costs_from [] = 0
-  costs_from (a ∷ ms) = a.cost + costs_from ms
-
-  -- a part in which nothing of this phase or a lower one is due can stand for another: nothing lower comes to be due
-  below-kept : (front : List Part) (p q : Part) (back : List Part) → NoneBelow x phase (front ++ p ∷ back) →
-      ((r : ℕ) → r < suc phase → (n : ℕ) → due_of x r n q ≡ []) → NoneBelow x phase (front ++ q ∷ back)
-  below-kept front p q back low quiet r lt =
-      let k : ℕ = 0 + length front in
-      let whole = sym (due-append x r 0 front (p ∷ back)) ∙ low r lt in
-      let cut = append-empty (due_from x r 0 front) (due_from x r k (p ∷ back)) whole in
-      let behind = append-empty (due_of x r k p) (due_from x r (suc k) back) cut.1 in
-      due-append x r 0 front (q ∷ back)
-      ∙ ap₂ (λ c d. c ++ d) cut.0 (ap₂ (λ c d. c ++ d) (quiet r (omega (arith, lt)) k) behind.1)
-
-  -- what the moves of a phase come to, behind parts that were moved: nothing of it or of a lower phase is left due
-  pub record Ran (front : List Part) (ms : List Move) : Type 0 where
-    pub leads : Leads x node sensed times (costs_from ms) Spot.Between (front ++ befores ms) Spot.Between
-        (front ++ afters ms)
-        (rows_from ms)
-    pub fits : Fit (front ++ afters ms)
-    pub below : NoneBelow x phase (front ++ afters ms)
-    pub none : NoneDue x phase (front ++ afters ms)
+  -- their greatest number of instructions
+  abbrev costs : Moves → ℕ
+  costs ms = costs_from x node sensed times phase Fit ms
 
   -- the moves of a phase, one after the other
-  pub phase_runs : (front : List Part) (ms : List Move) → Fit (front ++ befores ms) →
-      NoneBelow x phase (front ++ befores ms) →
-      NoneDue x phase front → Ran front ms
+  pub phase_runs : (front : List Part) (ms : Moves) → Fit (front ++ starts ms) →
+      NoneBelow x phase (front ++ starts ms) →
+      NoneDue x phase front → Ran x node sensed times phase Fit front ms
   phase_runs front [] fit low none = record {
     leads = nothing x node sensed times 0 Spot.Between (front ++ []);
     fits = fit;
@@ -157,17 +142,17 @@ module _ (x node : ℕ) (sensed : Sensed) (times : Times) (phase : ℕ) (Fit : L
   phase_runs front (a ∷ ms) fit low none =
       let q : Part = a.after in
       let moved : List Part = front ++ q ∷ [] in
-      let b : front ++ q ∷ befores ms ≡ moved ++ befores ms = sym (append_assoc front (q ∷ []) (befores ms)) in
-      let c : moved ++ afters ms ≡ front ++ q ∷ afters ms = append_assoc front (q ∷ []) (afters ms) in
-      let rest : Ran moved ms =
-      phase_runs moved ms (subst Fit b (a.fits front (befores ms) fit))
-      (subst (λ all. NoneBelow x phase all) b (below-kept front a.before q (befores ms) low a.below))
+      let b : front ++ q ∷ starts ms ≡ moved ++ starts ms = sym (append_assoc front (q ∷ []) (starts ms)) in
+      let c : moved ++ ends ms ≡ front ++ q ∷ ends ms = append_assoc front (q ∷ []) (ends ms) in
+      let rest : Ran x node sensed times phase Fit moved ms =
+      phase_runs moved ms (subst Fit b (a.fits front (starts ms) fit))
+      (subst (λ all. NoneBelow x phase all) b
+      (below-kept x phase front a.before q (starts ms) low (λ r lt n. a.below r (omega (arith, lt)) n)))
       (none-append x phase front (q ∷ []) none (none-one x phase q (a.below phase (omega arith)))) in
       record {
-        leads = leads_on x node sensed times a.cost (costs_from ms) _ _ _ _ _ _ _ _
-            (a.leads front (befores ms) fit low none)
-            (subst₂ (λ s e. Leads x node sensed times (costs_from ms) Spot.Between s Spot.Between e (rows_from ms))
-            (sym b) c
+        leads = leads_on x node sensed times a.cost (costs ms) _ _ _ _ _ _ _ _
+            (a.leads front (starts ms) fit low none)
+            (subst₂ (λ s e. Leads x node sensed times (costs ms) Spot.Between s Spot.Between e (rows ms)) (sym b) c
             rest.leads);
         fits = subst Fit c rest.fits;
         below = subst (λ all. NoneBelow x phase all) c rest.below;

@@ -1,13 +1,17 @@
 -- A whole turn of a node: its four phases, each over all parts.
-use Rattle.std.proofs.Common.{◌≡◌, ℕ, suc, ◌+◌, ◌-◌, ◌<◌, ◌≤◌, List, [], ◌++◌, Bool, true, false, ◌==◌, filter, refl, ap, ◌∙◌, subst, arith}
+use Rattle.std.proofs.Common.{◌≡◌, ℕ, ℤ, suc, ◌+◌, ◌-◌, ◌<◌, ◌≤◌, List, [], ◌++◌, Bool, true, false, ◌==◌, refl, ap, ◌∙◌, subst, arith}
 use Rattle.std.proofs.lemmas.Bool.{eqb-true}
 use Rattle.std.proofs.lemmas.Bool.Decides.{nat_tests}
 use Rattle.tdl_trace.specs.Shown.{Shown}
-use Rattle.tdl_verify.specs.States.{Part, Times, Sensed}
-use Rattle.tdl_verify.specs.Turns.{Spot, Turned, turn, due_in}
-use Rattle.tdl_verify.specs.Runs.{is_plain}
-use Rattle.tdl_verify.proofs.Leads.{Leads, leads_on, finished}
-use Rattle.tdl_verify.proofs.Sweeps.{NoneBelow, NoneDue, Move, befores, afters, rows_from, costs_from, Ran, phase_runs, least_none}
+use Rattle.tdl_base.specs.declared.numbers.PortKey.{PortKey}
+use Rattle.tdl_base.specs.Sensed.{Sensed}
+use Rattle.tdl_verify.specs.States.{Part, Times}
+use Rattle.tdl_verify.specs.Turns.{Spot, turn, due_in}
+pub use Rattle.tdl_verify.specs.Leads.{Finishes}
+use Rattle.tdl_verify.specs.Leads.{Leads}
+use Rattle.tdl_verify.specs.Sweeps.{NoneBelow, NoneDue, Move, befores, afters, rows_from, costs_from, Ran, Any, Sees, FourSweeps, swept_from, swept_to, swept_rows, swept_cost}
+use Rattle.tdl_verify.proofs.Leads.{leads_on, finished}
+use Rattle.tdl_verify.proofs.Sweeps.{phase_runs, least_none}
 
 -- where nothing of a phase or a lower one is due, nothing below the next phase is due
 below-next : (x phase : ℕ) (parts : List Part) → NoneBelow x phase parts → NoneDue x phase parts →
@@ -22,16 +26,10 @@ below-next x phase parts low none q lt = by_test (q == phase) refl
         less a b e lt = grind (arith, nat_tests, e, lt)
 
 module _ (x node : ℕ) (sensed : Sensed) (times : Times) (F G : List Part → Type 0) where
-  -- a turn within the declared number of instructions finishes with these parts and plain rows
-  pub record Finishes (declared : ℕ) (parts parts' : List Part) (plain : List Shown) : Type 0 where
-    pub rows : List Shown
-    pub is : turn declared x node sensed times Spot.Between parts [] ≡ Turned.Finished parts' rows
-    pub shown : filter is_plain rows ≡ plain
-
   -- a turn finishes where at most the declared number of instructions lead to parts in which nothing is due
   finishes : (n declared : ℕ) (parts parts' : List Part) (plain : List Shown) → n ≤ declared →
       Leads x node sensed times n Spot.Between parts Spot.Between parts' plain → NoneBelow x 5 parts' →
-      Finishes declared parts parts' plain
+      Finishes x node sensed times declared parts parts' plain
   finishes n declared parts parts' plain le l low =
       let k : ℕ = declared - l.count in
       let e : declared ≡ k + l.count = omega (arith, le, l.within) in
@@ -58,7 +56,7 @@ module _ (x node : ℕ) (sensed : Sensed) (times : Times) (F G : List Part → T
       afters x node sensed times 3 G ms3 ≡ befores x node sensed times 4 G ms4 →
       costs_from x node sensed times 1 F ms1 + costs_from x node sensed times 2 G ms2
       + costs_from x node sensed times 3 G ms3 + costs_from x node sensed times 4 G ms4 ≤ declared →
-      Finishes declared (befores x node sensed times 1 F ms1) (afters x node sensed times 4 G ms4)
+      Finishes x node sensed times declared (befores x node sensed times 1 F ms1) (afters x node sensed times 4 G ms4)
       (rows_from x node sensed times 1 F ms1 ++ rows_from x node sensed times 2 G ms2
       ++ rows_from x node sensed times 3 G ms3 ++ rows_from x node sensed times 4 G ms4)
   node_turn declared ms1 ms2 ms3 ms4 fit low e1 fit2 e2 e3 le =
@@ -84,3 +82,12 @@ module _ (x node : ℕ) (sensed : Sensed) (times : Times) (F G : List Part → T
       (subst (Along 1 F ms1) e1 r1.leads) (subst (Along 2 G ms2) e2 r2.leads))
       (subst (Along 3 G ms3) e3 r3.leads)) r4.leads)
       (below-next x 4 (afters x node sensed times 4 G ms4) r4.below r4.none)
+
+-- the sweeps of the four phases are a turn
+pub whole_turn : (x node declared : ℕ) (sensed : Sensed) (times : Times) (seen : PortKey → ℤ) (ns : List ℕ)
+    (s : FourSweeps x node sensed times seen ns) → swept_cost x node sensed times seen ns s ≤ declared →
+    Finishes x node sensed times declared (swept_from x node sensed times seen ns s)
+    (swept_to x node sensed times seen ns s) (swept_rows x node sensed times seen ns s)
+whole_turn x node declared sensed times seen ns s enough =
+    node_turn x node sensed times Any (Sees seen ns) declared s.ends s.updates s.switches s.starts tt s.low s.to_updates
+    s.sees s.to_switches s.to_starts enough

@@ -31,7 +31,8 @@ starts_at x s w = w.bus && (is_mode w.mode s.mode && s.base + w.offset == x)
 abbrev pub task_of : Hosted → ℕ → ℕ → ℕ
 task_of h mode invocation =
     unwrap_or (option_map (λ c. c.task)
-    (option_and_then (λ (r : ReleaseEntry). slice_get h.calls r.call) (find (λ r. r.mode == mode && r.invocation == invocation) h.releases))) 0
+    (option_and_then (λ (r : ReleaseEntry). slice_get h.calls r.call)
+    (find (λ r. r.mode == mode && r.invocation == invocation) h.releases))) 0
 
 -- the kinds of the outputs of a task
 abbrev pub output_kinds : Hosted → ℕ → List Kind
@@ -108,7 +109,8 @@ entries_received x f es more = more
 abbrev pub part_received : ℕ → Frame → Part → Part
 part_received x f (Part.Host h s) = Part.Host h s
 part_received x f (Part.Outside p s) =
-    if p.number.0 == f.owner then Part.Outside p (record s { entries = entries_received x f p.entries s.entries }) else Part.Outside p s
+    if p.number.0 == f.owner then Part.Outside p (record s { entries = entries_received x f p.entries s.entries })
+    else Part.Outside p s
 
 -- a node after a frame arrived
 abbrev pub node_received : ℕ → Frame → NodeNow → NodeNow

@@ -10,6 +10,11 @@ use Rattle.tdl_verify.specs.Micros.{is_live, is_job_of, cells_of, slot_run}
 abbrev pub is_own : ℕ → ℕ → ImageWindow → Bool
 is_own mode invocation w = not w.bus && is_job_of mode invocation w
 
+-- 1 where the test holds, else 0
+abbrev pub unit : Bool → ℕ
+unit true = 1
+unit false = 0
+
 -- the number, where the test holds; else 0
 abbrev pub only_if : Bool → ℕ → ℕ
 only_if true n = n

@@ -5,3 +5,7 @@ pub mod Covered
 pub mod Bus
 pub mod Runs
 pub mod Texts
+pub mod Ends
+pub mod Leads
+pub mod Sweeps
+pub mod Laws

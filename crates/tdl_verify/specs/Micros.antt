@@ -1,8 +1,10 @@
 -- A microsecond of a node's processor.
 use Rattle.std.specs.Prelude.{ℕ, zero, suc, ◌+◌, ℤ, Bool, true, false, not, ◌&&◌, ◌||◌, ◌==◌, nat_lt, nat_le, List, [], ◌∷◌, ◌++◌, map, filter, length, flat_map, Option, Some, None, option_map, unwrap_or, if◌then◌else◌}
 use Rattle.std.specs.List.{list_any}
+use Rattle.tdl_base.specs.Lists.{first_of}
 use Rattle.tdl_trace.specs.Shown.{Shown}
-use Rattle.tdl_stack.specs.Running.{Cells, outputs_after}
+use Rattle.tdl_base.specs.Cells.{Cells}
+use Rattle.tdl_stack.specs.Running.{outputs_after}
 use Rattle.tdl_image.specs.declared.hosted.TaskTable.{TaskTable}
 use Rattle.tdl_image.specs.declared.hosted.ImageWindow.{ImageWindow}
 use Rattle.tdl_verify.specs.States.{Slot, TaskNow, Trigger, HostNow, Part, Stretch, NodeNow}
@@ -25,7 +27,8 @@ cells_of t values = record { kinds = t.inputs ++ map (λ o. o.kind) t.outputs ++
 -- a job with one unit less; at 0 its body is run and it is done
 abbrev pub worked : TaskTable → ℕ → ℕ → ℕ → List ℤ → Slot
 worked t mode invocation zero cells = Slot.Ready mode invocation 0 cells
-worked t mode invocation (suc zero) cells = Slot.Done mode invocation (outputs_after (length t.inputs) (length t.outputs) t.body.instrs (cells_of t cells))
+worked t mode invocation (suc zero) cells =
+    Slot.Done mode invocation (outputs_after (length t.inputs) (length t.outputs) t.body.instrs (cells_of t cells))
 worked t mode invocation (suc (suc left)) cells = Slot.Ready mode invocation (suc left) cells
 
 -- the job is the window's
@@ -36,7 +39,8 @@ is_job_of mode invocation w = w.mode == mode && w.invocation == invocation
 abbrev pub slot_run : List ImageWindow → TaskTable → Slot → Slot
 slot_run windows t Slot.Idle = Slot.Idle
 slot_run windows t (Slot.Ready mode invocation left cells) =
-    if list_any (is_job_of mode invocation) windows then worked t mode invocation left cells else Slot.Ready mode invocation left cells
+    if list_any (is_job_of mode invocation) windows then worked t mode invocation left cells else Slot.Ready mode
+    invocation left cells
 slot_run windows t (Slot.Done mode invocation outputs) = Slot.Done mode invocation outputs
 
 -- the tasks after it
@@ -46,7 +50,8 @@ tasks_run windows ts us = us
 
 -- a part after the microsecond x
 abbrev pub run_part : ℕ → Part → Part
-run_part x (Part.Host h s) = Part.Host h (record s { tasks = tasks_run (filter (is_live x s) h.windows) h.tasks s.tasks })
+run_part x (Part.Host h s) =
+    Part.Host h (record s { tasks = tasks_run (filter (is_live x s) h.windows) h.tasks s.tasks })
 run_part x (Part.Outside p s) = Part.Outside p s
 
 -- the stretches that begin in the microsecond x: of each ready job in a live window
@@ -57,7 +62,15 @@ stretches x (Part.Host h s) = flat_map by_window (filter (is_live x s) h.windows
     of_slot : ImageWindow → ℕ → Slot → List Stretch
     of_slot w t (Slot.Ready mode invocation left cells) =
         if is_job_of mode invocation w
-        then record { owner = h.number.0; task = t; mode = mode; invocation = invocation; window_end = s.base + w.offset + w.length; from = x } ∷ []
+        then record {
+          owner = h.number.0;
+          task = t;
+          mode = mode;
+          invocation = invocation;
+          window_end = s.base +
+              w.offset + w.length;
+          from = x;
+        } ∷ []
         else []
     of_slot w t slot = []
 
@@ -67,11 +80,6 @@ stretches x (Part.Host h s) = flat_map by_window (filter (is_live x s) h.windows
 
     by_window : ImageWindow → List Stretch
     by_window w = by_task w 0 s.tasks
-
--- the first of some stretches
-abbrev pub head_of : List Stretch → Option Stretch
-head_of [] = None
-head_of (s ∷ more) = Some s
 
 -- an open stretch goes on; else one may begin
 abbrev pub opened : Option Stretch → Option Stretch → Option Stretch
@@ -84,7 +92,9 @@ micro x n = by_count (nat_lt 1 (length (flat_map (live x) n.parts)))
   where
     by_count : Bool → Option NodeNow
     by_count true = None
-    by_count false = Some (record n { parts = map (run_part x) n.parts; running = opened n.running (head_of (flat_map (stretches x) n.parts)) })
+    by_count false =
+        Some (record n
+        { parts = map (run_part x) n.parts; running = opened n.running (first_of (flat_map (stretches x) n.parts)) })
 
 -- the job of a stretch is still ready
 abbrev pub is_working : Stretch → Part → Bool
@@ -98,7 +108,8 @@ is_working r (Part.Host h s) = h.number.0 == r.owner && list_any (λ (u : TaskNo
 -- a trigger of the stretch's module is due at x
 abbrev pub is_called : ℕ → Stretch → Part → Bool
 is_called x r (Part.Outside p s) = false
-is_called x r (Part.Host h s) = h.number.0 == r.owner && unwrap_or (option_map (λ (t : Trigger). t.at == x) s.trigger) false
+is_called x r (Part.Host h s) =
+    h.number.0 == r.owner && unwrap_or (option_map (λ (t : Trigger). t.at == x) s.trigger) false
 
 -- a stretch ends at x: its job is done, its window ends, its module is called, or the horizon is reached
 abbrev pub is_ended : ℕ → ℕ → List Part → Stretch → Bool

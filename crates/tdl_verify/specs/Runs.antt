@@ -5,7 +5,8 @@ use Rattle.tdl_trace.specs.declared.why.Why.TheVariants as why
 use Rattle.tdl_trace.specs.Shown.{Shown}
 use Rattle.tdl_frame.specs.Frames.{Member, Frame, frame_bytes}
 use Rattle.tdl_image.specs.declared.bundle.Bundle.{Bundle}
-use Rattle.tdl_verify.specs.States.{NodeNow, Times, Sensed, node_first}
+use Rattle.tdl_base.specs.Sensed.{Sensed}
+use Rattle.tdl_verify.specs.States.{NodeNow, Times, node_first}
 use Rattle.tdl_verify.specs.Turns.{Spot, Turned, turn}
 use Rattle.tdl_verify.specs.Micros.{micro, ran_rows, closed}
 use Rattle.tdl_verify.specs.Bus.{Flight, Start, node_start, node_received}
@@ -53,7 +54,8 @@ no_loss number at until = false
 abbrev pub landed : ℕ → Lost → List NodeNow → Option Flight → List NodeNow
 landed x lost nodes None = nodes
 landed x lost nodes (Some f) =
-    if f.until == x then (if lost f.number f.sent_at f.until then nodes else map (node_received x f.frame) nodes) else nodes
+    if f.until == x then (if lost f.number f.sent_at f.until then nodes else map (node_received x f.frame) nodes)
+    else nodes
 
 -- a frame whose end is reached is on the bus no longer, lost or not
 abbrev pub still_flying : ℕ → Option Flight → Option Flight
@@ -67,10 +69,11 @@ pub data Turns : Type 0 where
   All : List NodeNow → List Shown → Turns
   Stuck : (node : ℕ) → Why → Turns
 
--- a node's turn, and those of the nodes behind it
+-- a node's turn, and those of the nodes after it
 abbrev pub and_turn : ℕ → NodeNow → Turned → Turns → Turns
 and_turn k n (Turned.Trapped reason) rest = Turns.Stuck k reason
-and_turn k n (Turned.Finished parts rows) (Turns.All nodes others) = Turns.All (record n { parts = parts } ∷ nodes) (rows ++ others)
+and_turn k n (Turned.Finished parts rows) (Turns.All nodes others) =
+    Turns.All (record n { parts = parts } ∷ nodes) (rows ++ others)
 and_turn k n (Turned.Finished parts rows) (Turns.Stuck j reason) = Turns.Stuck j reason
 
 -- the turns of all nodes, and the trap of the least node where one traps
@@ -87,8 +90,8 @@ pub data Sends : Type 0 where
   Refused : (node : ℕ) → Why → Sends
 
 -- the invocation of a frame: that of its first member
-abbrev pub invocation_of : Frame → ℕ
-invocation_of f = first_invocation f.members
+abbrev pub frame_invocation : Frame → ℕ
+frame_invocation f = first_invocation f.members
   where
     first_invocation : List Member → ℕ
     first_invocation [] = 0
@@ -102,10 +105,10 @@ put_on x k Start.Two None count = Sends.Refused k why.Clash
 put_on x k Start.Late None count = Sends.Refused k why.Late
 put_on x k (Start.Sends frame until) None count =
     Sends.Sent (Some (record { number = suc count; sent_at = x; until = until; frame = frame })) (suc count)
-    (Shown.Sent x k frame.owner frame.mode (invocation_of frame) (frame_bytes frame) ∷ [])
+    (Shown.Send x k frame.owner frame.mode (frame_invocation frame) (frame_bytes frame) ∷ [])
     (record { number = suc count; at = x; until = until; frame = frame } ∷ [])
 
--- what was sent so far, and what the nodes behind it send
+-- what was sent so far, and what the nodes after it send
 abbrev pub and_sends : Sends → (Option Flight → ℕ → Sends) → Sends
 and_sends (Sends.Refused node reason) next = Sends.Refused node reason
 and_sends (Sends.Sent flight count rows sendings) next = with_first (next flight count)
@@ -117,7 +120,8 @@ and_sends (Sends.Sent flight count rows sendings) next = with_first (next flight
 -- the sends of all nodes, from node k on, with what is on the bus and how many were sent
 abbrev pub all_sends : ℕ → ℕ → List NodeNow → Option Flight → ℕ → Sends
 all_sends x k [] flight count = Sends.Sent flight count [] []
-all_sends x k (n ∷ more) flight count = and_sends (put_on x k (node_start x n) flight count) (λ f c. all_sends x (suc k) more f c)
+all_sends x k (n ∷ more) flight count =
+    and_sends (put_on x k (node_start x n) flight count) (λ f c. all_sends x (suc k) more f c)
 
 -- ---- one instant
 
@@ -125,7 +129,7 @@ all_sends x k (n ∷ more) flight count = and_sends (put_on x k (node_start x n)
 abbrev pub dead : ℕ → ℕ → Why → Run
 dead node at reason = record { rows = []; sendings = []; now = Now.Dead node at reason }
 
--- instant x of a system, behind these rows of stretches that ended
+-- instant x of a system, after these rows of stretches that ended
 unfoldable pub instant : ℕ → Sensed → Times → Lost → List Shown → System → Run
 instant x sensed times lost ran s = after_turns (all_turns x sensed times 0 (landed x lost s.nodes s.flight))
   where
@@ -143,12 +147,12 @@ instant x sensed times lost ran s = after_turns (all_turns x sensed times 0 (lan
 
 -- ---- one microsecond of all processors
 
--- a microsecond of nodes: the nodes behind it, or one on which two windows are live
+-- a microsecond of nodes: the nodes after it, or one on which two windows are live
 pub data Micros : Type 0 where
   Walked : List NodeNow → Micros
   Clashed : (node : ℕ) → Micros
 
--- a node's microsecond, and those of the nodes behind it
+-- a node's microsecond, and those of the nodes after it
 abbrev pub and_micros : ℕ → Option NodeNow → Micros → Micros
 and_micros k None rest = Micros.Clashed k
 and_micros k (Some n) (Micros.Walked others) = Micros.Walked (n ∷ others)
@@ -164,14 +168,15 @@ abbrev pub all_ran : ℕ → ℕ → ℕ → List NodeNow → List Shown
 all_ran horizon x k [] = []
 all_ran horizon x k (n ∷ more) = ran_rows horizon x k n ++ all_ran horizon x (suc k) more
 
--- the microsecond x and the instant behind it
+-- the microsecond x and the instant after it
 unfoldable pub next_instant : ℕ → ℕ → Sensed → Times → Lost → System → Run
-next_instant horizon x sensed times lost s = behind (all_micros x 0 s.nodes)
+next_instant horizon x sensed times lost s = after_micros (all_micros x 0 s.nodes)
   where
-    behind : Micros → Run
-    behind (Micros.Clashed node) = dead node (suc x) why.Clash
-    behind (Micros.Walked nodes) =
-        instant (suc x) sensed times lost (all_ran horizon (suc x) 0 nodes) (record s { nodes = map (closed horizon (suc x)) nodes })
+    after_micros : Micros → Run
+    after_micros (Micros.Clashed node) = dead node (suc x) why.Clash
+    after_micros (Micros.Walked nodes) =
+        instant (suc x) sensed times lost (all_ran horizon (suc x) 0 nodes)
+        (record s { nodes = map (closed horizon (suc x)) nodes })
 
 -- ---- the run
 
@@ -203,12 +208,12 @@ machine_run b horizon course times lost = run_to b horizon course times lost hor
 -- the trap line of a run that is dead
 abbrev pub trap_rows : Now → List Shown
 trap_rows (Now.Alive s) = []
-trap_rows (Now.Dead node at reason) = Shown.Trapped at node reason ∷ []
+trap_rows (Now.Dead node at reason) = Shown.Trap at node reason ∷ []
 
 -- a row that is shown without a log
 abbrev pub is_plain : Shown → Bool
-is_plain (Shown.Stepped at node m b index op p q) = false
-is_plain (Shown.Sent at node m mode invocation frame) = false
+is_plain (Shown.Step at node m b index op p q) = false
+is_plain (Shown.Send at node m mode invocation frame) = false
 is_plain (Shown.Ran at node m t from) = false
 is_plain row = true
 

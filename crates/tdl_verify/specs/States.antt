@@ -1,8 +1,10 @@
 -- The state of a node: its hosted modules and stubs, each with its tables beside its state.
-use Rattle.std.specs.Prelude.{ℕ, ℤ, pos, nat_lt, List, [], ◌∷◌, map, Option, Some, None, option_map, unwrap_or, slice_get, slice_index_or, find, if◌then◌else◌, ◌==◌}
+use Rattle.std.specs.Prelude.{ℕ, ℤ, pos, Bool, nat_le, List, [], ◌∷◌, map, Option, Some, None, option_map, unwrap_or, slice_get, slice_index_or, find, if◌then◌else◌, ◌==◌, flat_map}
+use Rattle.tdl_base.specs.Lists.{inserted}
+use Rattle.tdl_base.specs.Sensed.{Sensed}
 use Rattle.tdl_base.specs.declared.numbers.PortKey.{PortKey}
 use Rattle.tdl_stack.specs.declared.instr.Code.{Code}
-use Rattle.tdl_stack.specs.Running.{Look, number_of}
+use Rattle.tdl_stack.specs.Running.{Outer, code_value}
 use Rattle.tdl_image.specs.declared.bundle.Image.{Image}
 use Rattle.tdl_image.specs.declared.bundle.Initial.{Initial}
 use Rattle.tdl_image.specs.declared.hosted.Hosted.{Hosted}
@@ -70,10 +72,6 @@ pub record NodeNow : Type 0 where
 abbrev pub Times : Type 0
 Times = ℕ → ℕ → ℕ → ℕ
 
--- what each sensor of each module shows at one instant
-abbrev pub Sensed : Type 0
-Sensed = ℕ → ℕ → ℤ
-
 -- the number of a module or stub
 abbrev pub part_number : Part → ℕ
 part_number (Part.Host h s) = h.number.0
@@ -92,23 +90,25 @@ part_outputs (Part.Outside p s) t = stub_outputs t p.tasks s.outputs
 -- the outputs that the parts of a node hold
 abbrev pub outputs_on : List Part → PortKey → ℤ
 outputs_on parts key =
-    slice_index_or (unwrap_or (option_map (λ p. part_outputs p key.task.0) (find (λ p. part_number p == key.module.0) parts)) []) key.output (pos 0)
+    slice_index_or
+    (unwrap_or (option_map (λ p. part_outputs p key.task.0) (find (λ p. part_number p == key.module.0) parts)) [])
+    key.output (pos 0)
 
 -- what the code of module m reads on a node
-abbrev pub look_on : List Part → Sensed → ℕ → Look
-look_on parts sensed m = record { sensor = sensed m; port = outputs_on parts }
+abbrev pub outer_on : List Part → Sensed → ℕ → Outer
+outer_on parts sensed m = record { sensor = sensed m; port = outputs_on parts }
 
 -- the number of a code of module m
 abbrev pub value_on : List Part → Sensed → ℕ → Code → ℤ
-value_on parts sensed m code = number_of (look_on parts sensed m) code.instrs
+value_on parts sensed m code = code_value (outer_on parts sensed m) code.instrs
 
 -- the initial numbers of ports
-abbrev pub initials : List Initial → List ℤ
-initials ports = map (λ p. p.initial) ports
+abbrev pub initial_values : List Initial → List ℤ
+initial_values ports = map (λ p. p.initial) ports
 
 -- a task before its first job
 abbrev pub task_first : TaskTable → TaskNow
-task_first t = record { outputs = initials t.outputs; slot = Slot.Idle; released = 0 }
+task_first t = record { outputs = initial_values t.outputs; slot = Slot.Idle; released = 0 }
 
 -- a hosted module before instant 0: no mode, and a trigger at 0 for its entry block
 abbrev pub host_first : Hosted → Part
@@ -117,29 +117,29 @@ host_first h = Part.Host h (record {
   base = 0;
   trigger = Some (record { at = 0; block = h.entry });
   tasks = map task_first h.tasks;
-  actuators = initials h.actuators;
+  actuators = initial_values h.actuators;
 })
 
 -- the initial outputs of task t of a stub
 abbrev pub stub_initials : Stub → ℕ → List ℤ
-stub_initials s t = unwrap_or (option_map (λ (k : StubTask). initials k.outputs) (find (λ k. k.number == t) s.tasks)) []
+stub_initials s t =
+    unwrap_or (option_map (λ (k : StubTask). initial_values k.outputs) (find (λ k. k.number == t) s.tasks)) []
 
 -- a stub before instant 0: its entries hold the initial outputs of their tasks
 abbrev pub stub_first : Stub → Part
 stub_first s = Part.Outside s (record {
-  outputs = map (λ (t : StubTask). initials t.outputs) s.tasks;
+  outputs = map (λ (t : StubTask). initial_values t.outputs) s.tasks;
   entries = map (λ (e : Receive). record { copy = stub_initials s e.task; due = None }) s.entries;
 })
 
--- a part in its place among parts of ascending number
-abbrev pub placed : Part → List Part → List Part
-placed p [] = p ∷ []
-placed p (q ∷ qs) = if nat_lt (part_number q) (part_number p) then q ∷ placed p qs else p ∷ q ∷ qs
+-- one part comes before another of the same number or a greater one
+abbrev pub is_part_before : Part → Part → Bool
+is_part_before p q = nat_le (part_number p) (part_number q)
 
 -- parts one after the other, each in its place among the others
 abbrev pub placed_all : List Part → List Part → List Part
 placed_all [] qs = qs
-placed_all (p ∷ ps) qs = placed p (placed_all ps qs)
+placed_all (p ∷ ps) qs = inserted is_part_before p (placed_all ps qs)
 
 -- a node before instant 0
 abbrev pub node_first : Image → NodeNow
@@ -148,3 +148,7 @@ node_first image = record {
   parts = placed_all (map host_first image.hosted) (map stub_first image.stubs);
   running = None;
 }
+
+-- the parts of all nodes
+unfoldable pub all_parts : List NodeNow → List Part
+all_parts nodes = flat_map (λ (n : NodeNow). n.parts) nodes

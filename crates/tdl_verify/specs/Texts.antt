@@ -1,7 +1,7 @@
 -- The run of a bundle under a scenario, and what is printed of it.
-use Rattle.std.specs.Prelude.{ℕ, nat_le, List, [], ◌∷◌, map, option_map, option_and_then, unwrap_or, slice_get, find, ◌==◌, if◌then◌else◌}
+use Rattle.std.specs.Prelude.{ℕ, Bool, nat_lt, List, [], ◌∷◌, map, option_map, option_and_then, unwrap_or, slice_get, find, ◌==◌}
 use Rattle.std.specs.List.{flat_map}
-use Rattle.tdl_base.specs.Lists.{joined, numbered}
+use Rattle.tdl_base.specs.Lists.{joined, numbered, inserted}
 use Rattle.tdl_trace.specs.declared.names.Names.{Names}
 use Rattle.tdl_trace.specs.declared.names.ModuleNames.{ModuleNames}
 use Rattle.tdl_trace.specs.declared.names.TaskNames.{TaskNames}
@@ -42,15 +42,14 @@ hosted_names node h = record {
   modes = h.modes;
 }
 
--- a module's names in their place among those of ascending number
-abbrev pub names_placed : ModuleNames → List ModuleNames → List ModuleNames
-names_placed n [] = n ∷ []
-names_placed n (k ∷ ks) = if nat_le k.number.0 n.number.0 then k ∷ names_placed n ks else n ∷ k ∷ ks
+-- a module's names come before those of a module of a greater number
+abbrev pub is_named_before : ModuleNames → ModuleNames → Bool
+is_named_before n k = nat_lt n.number.0 k.number.0
 
 -- the modules' names in ascending number
 abbrev pub names_sorted : List ModuleNames → List ModuleNames
 names_sorted [] = []
-names_sorted (n ∷ ns) = names_placed n (names_sorted ns)
+names_sorted (n ∷ ns) = inserted is_named_before n (names_sorted ns)
 
 -- the names of the nodes, and of all hosted modules with their parts
 abbrev pub bundle_names : Bundle → Names
@@ -63,7 +62,8 @@ bundle_names b = record {
 abbrev pub worst_in : Bundle → ℕ → ℕ → ℕ
 worst_in b m t =
     unwrap_or (option_map (λ (k : TaskTable). k.worst)
-    (option_and_then (λ (h : Hosted). slice_get h.tasks t) (find (λ (h : Hosted). h.number.0 == m) (flat_map (λ (i : Image). i.hosted) b.images)))) 0
+    (option_and_then (λ (h : Hosted). slice_get h.tasks t)
+    (find (λ (h : Hosted). h.number.0 == m) (flat_map (λ (i : Image). i.hosted) b.images)))) 0
 
 -- how long the jobs take: as the scenario lists it, otherwise their worst cases
 abbrev pub times_in : Bundle → Scenario → Times

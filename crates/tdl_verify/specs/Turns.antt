@@ -1,6 +1,6 @@
 -- The E-machine of a node at one instant: the due triggers, block by block, until none is due.
 use Rattle.std.specs.Prelude.{ℕ, zero, suc, ◌+◌, ℤ, pos, Bool, false, ◌&&◌, ◌==◌, List, [], ◌∷◌, ◌++◌, Option, Some, None, option_map, option_and_then, unwrap_or, slice_get, replicate, length, if◌then◌else◌}
-use Rattle.tdl_base.specs.Lists.{changed_at, joined, numbered}
+use Rattle.tdl_base.specs.Lists.{changed_at, joined, numbered, first_of}
 use Rattle.tdl_base.specs.declared.kinds.Kind.{Kind}
 use Rattle.tdl_base.specs.declared.kinds.Kind.TheVariants.{Long}
 use Rattle.tdl_base.specs.Numbers.{narrowed, is_true}
@@ -19,7 +19,8 @@ use Rattle.tdl_image.specs.declared.hosted.Driver.{Driver}
 use Rattle.tdl_image.specs.declared.stub.Stub.{Stub}
 use Rattle.tdl_image.specs.declared.stub.StubTask.{StubTask}
 use Rattle.tdl_image.specs.declared.stub.Receive.{Receive}
-use Rattle.tdl_verify.specs.States.{Slot, TaskNow, Trigger, HostNow, EntryNow, StubNow, Part, Times, Sensed, value_on, part_number}
+use Rattle.tdl_base.specs.Sensed.{Sensed}
+use Rattle.tdl_verify.specs.States.{Slot, TaskNow, Trigger, HostNow, EntryNow, StubNow, Part, Times, value_on, part_number}
 
 -- ---- which trigger is next
 
@@ -50,26 +51,22 @@ due_of x phase k (Part.Host h s) = host_due s.trigger
   where
     host_due : Option Trigger → List Due
     host_due None = []
-    host_due (Some t) = if t.at == x && phase_of h.blocks t.block == phase then record { part = k; entry = 0 } ∷ [] else []
+    host_due (Some t) =
+        if t.at == x && phase_of h.blocks t.block == phase then record { part = k; entry = 0 } ∷ [] else []
 due_of x phase k (Part.Outside p s) = due_entries x phase k p 0 p.entries s.entries
 
 -- the due triggers of this phase, part by part
 abbrev pub due_in : ℕ → ℕ → List Part → List Due
 due_in x phase parts = joined (numbered 0 (due_of x phase) parts)
 
--- the first of some due triggers
-abbrev pub first_of : List Due → Option Due
-first_of [] = None
-first_of (d ∷ ds) = Some d
-
 -- the due trigger with the least phase of its block, then module, then entry
 abbrev pub least_due : ℕ → List Part → Option Due
 least_due x parts = first_of (due_in x 0 parts ++ due_in x 1 parts ++ due_in x 2 parts ++ due_in x 3 parts ++ due_in x 4 parts)
 
 -- the number of the block that a due trigger runs
-abbrev pub block_of : Due → Part → ℕ
-block_of d (Part.Host h s) = unwrap_or (option_map (λ t. t.block) s.trigger) 0
-block_of d (Part.Outside p s) = unwrap_or (option_map (λ e. e.block) (slice_get p.entries d.entry)) 0
+abbrev pub due_block_number : Due → Part → ℕ
+due_block_number d (Part.Host h s) = unwrap_or (option_map (λ t. t.block) s.trigger) 0
+due_block_number d (Part.Outside p s) = unwrap_or (option_map (λ e. e.block) (slice_get p.entries d.entry)) 0
 
 -- the instructions of block b of a part
 abbrev pub code_at : ℕ → Part → List EInstr
@@ -79,7 +76,8 @@ code_at b (Part.Outside p s) = unwrap_or (option_map (λ k. k.code) (slice_get p
 -- the part with a due trigger taken out
 abbrev pub taken_out : Due → Part → Part
 taken_out d (Part.Host h s) = Part.Host h (record s { trigger = None })
-taken_out d (Part.Outside p s) = Part.Outside p (record s { entries = changed_at d.entry (λ (e : EntryNow). record e { due = None }) s.entries })
+taken_out d (Part.Outside p s) =
+    Part.Outside p (record s { entries = changed_at d.entry (λ (e : EntryNow). record e { due = None }) s.entries })
 
 -- ---- what one instruction does
 
@@ -91,7 +89,7 @@ pub data Acted : Type 0 where
 
 -- the rows of the outputs of task t
 abbrev pub output_rows : ℕ → ℕ → ℕ → ℕ → List ℤ → List Shown
-output_rows x node m t outputs = numbered 0 (λ o v. Shown.Committed x node m t o v) outputs
+output_rows x node m t outputs = numbered 0 (λ o v. Shown.Port x node m t o v) outputs
 
 -- a code without instructions
 abbrev pub no_code : Code
@@ -104,8 +102,8 @@ arguments value [] (code ∷ codes) = narrowed Long (value code) ∷ arguments v
 arguments value (k ∷ ks) (code ∷ codes) = narrowed k (value code) ∷ arguments value ks codes
 
 -- the driver's actuator takes its expression's narrowed number
-abbrev pub called : ℕ → ℕ → (Code → ℤ) → Hosted → HostNow → ℕ → ℕ → Acted
-called x node value h s pc d = by_driver (slice_get h.drivers d)
+abbrev pub call_acts : ℕ → ℕ → (Code → ℤ) → Hosted → HostNow → ℕ → ℕ → Acted
+call_acts x node value h s pc d = by_driver (slice_get h.drivers d)
   where
     narrowed_to : ℕ → ℤ → ℤ
     narrowed_to a v = narrowed (unwrap_or (option_map (λ p. p.kind) (slice_get h.actuators a)) Long) v
@@ -113,12 +111,14 @@ called x node value h s pc d = by_driver (slice_get h.drivers d)
     by_driver : Option Driver → Acted
     by_driver None = Acted.On (Part.Host h s) [] (suc pc)
     by_driver (Some r) =
-        Acted.On (Part.Host h (record s { actuators = changed_at r.actuator (λ _. narrowed_to r.actuator (value r.value)) s.actuators }))
-        (Shown.Updated x node h.number.0 r.actuator (narrowed_to r.actuator (value r.value)) ∷ []) (suc pc)
+        Acted.On
+        (Part.Host h
+        (record s { actuators = changed_at r.actuator (λ _. narrowed_to r.actuator (value r.value)) s.actuators }))
+        (Shown.Act x node h.number.0 r.actuator (narrowed_to r.actuator (value r.value)) ∷ []) (suc pc)
 
 -- a job of the release's mode and invocation starts, where the slot of its task is idle
-abbrev pub released : (Code → ℤ) → Times → Hosted → HostNow → ℕ → ℕ → Acted
-released value times h s pc i = by_release (slice_get h.releases i)
+abbrev pub release_acts : (Code → ℤ) → Times → Hosted → HostNow → ℕ → ℕ → Acted
+release_acts value times h s pc i = by_release (slice_get h.releases i)
   where
     started : ReleaseEntry → CallEntry → TaskTable → TaskNow → TaskNow
     started r c table u = record u {
@@ -128,7 +128,8 @@ released value times h s pc i = by_release (slice_get h.releases i)
     }
 
     by_slot : ReleaseEntry → CallEntry → TaskTable → Slot → Acted
-    by_slot r c table Slot.Idle = Acted.On (Part.Host h (record s { tasks = changed_at c.task (started r c table) s.tasks })) [] (suc pc)
+    by_slot r c table Slot.Idle =
+        Acted.On (Part.Host h (record s { tasks = changed_at c.task (started r c table) s.tasks })) [] (suc pc)
     by_slot r c table slot = Acted.Stop why.Busy
 
     by_table : ReleaseEntry → CallEntry → Option TaskTable → Option TaskNow → Acted
@@ -144,14 +145,17 @@ released value times h s pc i = by_release (slice_get h.releases i)
     by_release (Some r) = by_call r (slice_get h.calls r.call)
 
 -- a done job is committed; a ready one is late
-abbrev pub ended : ℕ → ℕ → Hosted → HostNow → ℕ → ℕ → Acted
-ended x node h s pc t = by_slot (unwrap_or (option_map (λ u. u.slot) (slice_get s.tasks t)) Slot.Idle)
+abbrev pub end_acts : ℕ → ℕ → Hosted → HostNow → ℕ → ℕ → Acted
+end_acts x node h s pc t = by_slot (unwrap_or (option_map (λ u. u.slot) (slice_get s.tasks t)) Slot.Idle)
   where
     by_slot : Slot → Acted
     by_slot Slot.Idle = Acted.On (Part.Host h s) [] (suc pc)
     by_slot (Slot.Ready mode invocation left cells) = Acted.Stop why.Late
     by_slot (Slot.Done mode invocation outputs) =
-        Acted.On (Part.Host h (record s { tasks = changed_at t (λ (u : TaskNow). record u { outputs = outputs; slot = Slot.Idle }) s.tasks }))
+        Acted.On
+        (Part.Host h
+        (record s
+        { tasks = changed_at t (λ (u : TaskNow). record u { outputs = outputs; slot = Slot.Idle }) s.tasks }))
         (output_rows x node h.number.0 t outputs) (suc pc)
 
 -- a mode, where there is one, is m
@@ -160,19 +164,19 @@ is_mode m None = false
 is_mode m (Some k) = k == m
 
 -- the module is in the mode from here on; a row where it was not
-abbrev pub entered : ℕ → ℕ → Hosted → HostNow → ℕ → ℕ → Acted
-entered x node h s pc m =
+abbrev pub mode_acts : ℕ → ℕ → Hosted → HostNow → ℕ → ℕ → Acted
+mode_acts x node h s pc m =
     Acted.On (Part.Host h (record s { mode = Some m; base = x }))
-    (if is_mode m s.mode then [] else Shown.Entered x node h.number.0 m ∷ []) (suc pc)
+    (if is_mode m s.mode then [] else Shown.Mode x node h.number.0 m ∷ []) (suc pc)
 
 -- an instruction of a hosted module
 abbrev pub host_acts : ℕ → ℕ → (Code → ℤ) → Times → Hosted → HostNow → ℕ → EInstr → Acted
 host_acts x node value times h s pc Return = Acted.Over (Part.Host h s) []
-host_acts x node value times h s pc (Call d) = called x node value h s pc d
-host_acts x node value times h s pc (Release i) = released value times h s pc i
-host_acts x node value times h s pc (End t) = ended x node h s pc t
+host_acts x node value times h s pc (Call d) = call_acts x node value h s pc d
+host_acts x node value times h s pc (Release i) = release_acts value times h s pc i
+host_acts x node value times h s pc (End t) = end_acts x node h s pc t
 host_acts x node value times h s pc (Take r) = Acted.On (Part.Host h s) [] (suc pc)
-host_acts x node value times h s pc (Mode m) = entered x node h s pc m
+host_acts x node value times h s pc (Mode m) = mode_acts x node h s pc m
 host_acts x node value times h s pc (If g a) =
     Acted.On (Part.Host h s) [] (if is_true (value (unwrap_or (slice_get h.guards g) no_code)) then suc pc else a)
 host_acts x node value times h s pc (Jump a) = Acted.On (Part.Host h s) [] a
@@ -186,8 +190,8 @@ replaced_in t copy (task ∷ tasks) (outputs ∷ more) =
 replaced_in t copy tasks more = more
 
 -- the copy of entry r becomes the outputs of its task
-abbrev pub took : ℕ → ℕ → Stub → StubNow → ℕ → ℕ → Acted
-took x node p s pc r = by_entry (slice_get p.entries r) (slice_get s.entries r)
+abbrev pub take_acts : ℕ → ℕ → Stub → StubNow → ℕ → ℕ → Acted
+take_acts x node p s pc r = by_entry (slice_get p.entries r) (slice_get s.entries r)
   where
     by_entry : Option Receive → Option EntryNow → Acted
     by_entry (Some e) (Some now) =
@@ -198,24 +202,25 @@ took x node p s pc r = by_entry (slice_get p.entries r) (slice_get s.entries r)
 -- an instruction of a stub
 abbrev pub stub_acts : ℕ → ℕ → Stub → StubNow → ℕ → EInstr → Acted
 stub_acts x node p s pc Return = Acted.Over (Part.Outside p s) []
-stub_acts x node p s pc (Take r) = took x node p s pc r
+stub_acts x node p s pc (Take r) = take_acts x node p s pc r
 stub_acts x node p s pc i = Acted.On (Part.Outside p s) [] (suc pc)
 
 -- the opcode and the operands of an instruction, an unused one 0
 abbrev pub step_row : ℕ → ℕ → ℕ → ℕ → ℕ → EInstr → Shown
-step_row x node m b pc Return = Shown.Stepped x node m b pc 0 0 0
-step_row x node m b pc (Call d) = Shown.Stepped x node m b pc 1 d 0
-step_row x node m b pc (Release i) = Shown.Stepped x node m b pc 2 i 0
-step_row x node m b pc (End t) = Shown.Stepped x node m b pc 3 t 0
-step_row x node m b pc (Take r) = Shown.Stepped x node m b pc 4 r 0
-step_row x node m b pc (Mode k) = Shown.Stepped x node m b pc 5 k 0
-step_row x node m b pc (If g a) = Shown.Stepped x node m b pc 6 g a
-step_row x node m b pc (Jump a) = Shown.Stepped x node m b pc 7 a 0
-step_row x node m b pc (Future dt k) = Shown.Stepped x node m b pc 8 dt k
+step_row x node m b pc Return = Shown.Step x node m b pc 0 0 0
+step_row x node m b pc (Call d) = Shown.Step x node m b pc 1 d 0
+step_row x node m b pc (Release i) = Shown.Step x node m b pc 2 i 0
+step_row x node m b pc (End t) = Shown.Step x node m b pc 3 t 0
+step_row x node m b pc (Take r) = Shown.Step x node m b pc 4 r 0
+step_row x node m b pc (Mode k) = Shown.Step x node m b pc 5 k 0
+step_row x node m b pc (If g a) = Shown.Step x node m b pc 6 g a
+step_row x node m b pc (Jump a) = Shown.Step x node m b pc 7 a 0
+step_row x node m b pc (Future dt k) = Shown.Step x node m b pc 8 dt k
 
 -- an instruction at index pc of block b of a part, on a node
 abbrev pub part_acts : ℕ → ℕ → Sensed → Times → List Part → ℕ → Part → EInstr → Acted
-part_acts x node sensed times parts pc (Part.Host h s) i = host_acts x node (value_on parts sensed h.number.0) times h s pc i
+part_acts x node sensed times parts pc (Part.Host h s) i =
+    host_acts x node (value_on parts sensed h.number.0) times h s pc i
 part_acts x node sensed times parts pc (Part.Outside p s) i = stub_acts x node p s pc i
 
 -- ---- a turn
@@ -241,9 +246,11 @@ acted next k b parts rows (Acted.Over p more) = next Spot.Between (changed_at k 
 acted next k b parts rows (Acted.Stop reason) = Turned.Trapped reason
 
 -- the instruction that is fetched from part k, if there is one
-abbrev pub fetched : Next → ℕ → ℕ → Sensed → Times → ℕ → ℕ → ℕ → List Part → List Shown → Option Part → Option EInstr → Turned
+abbrev pub fetched : Next → ℕ → ℕ → Sensed → Times → ℕ → ℕ → ℕ → List Part → List Shown → Option Part → Option EInstr →
+    Turned
 fetched next x node sensed times k b pc parts rows (Some p) (Some i) =
-    acted next k b parts (rows ++ step_row x node (part_number p) b pc i ∷ []) (part_acts x node sensed times parts pc p i)
+    acted next k b parts (rows
+    ++ step_row x node (part_number p) b pc i ∷ []) (part_acts x node sensed times parts pc p i)
 fetched next x node sensed times k b pc parts rows p i = Turned.Trapped why.Lost
 
 -- no instruction is left in the count
@@ -252,22 +259,24 @@ spent None = Turned.Trapped why.Lost
 spent (Some i) = Turned.Trapped why.Budget
 
 -- the instruction at index pc of block b of part k
-abbrev pub instr_at : List Part → ℕ → ℕ → ℕ → Option EInstr
-instr_at parts k b pc = option_and_then (λ p. slice_get (code_at b p) pc) (slice_get parts k)
+abbrev pub part_instr : List Part → ℕ → ℕ → ℕ → Option EInstr
+part_instr parts k b pc = option_and_then (λ p. slice_get (code_at b p) pc) (slice_get parts k)
 
 -- a due trigger is taken out and its block begun; where none is due the turn is over
-abbrev pub begun : (ℕ → ℕ → ℕ → List Part → Turned) → List Part → List Shown → Option Due → Turned
-begun go parts rows None = Turned.Finished parts rows
-begun go parts rows (Some d) =
-    go d.part (unwrap_or (option_map (block_of d) (slice_get parts d.part)) 0) 0 (changed_at d.part (taken_out d) parts)
+abbrev pub block_begun : (ℕ → ℕ → ℕ → List Part → Turned) → List Part → List Shown → Option Due → Turned
+block_begun go parts rows None = Turned.Finished parts rows
+block_begun go parts rows (Some d) =
+    go d.part (unwrap_or (option_map (due_block_number d) (slice_get parts d.part)) 0) 0
+    (changed_at d.part (taken_out d) parts)
 
 -- the next instruction: of the block that is run, or of the block of the least due trigger
 abbrev pub picked : (ℕ → ℕ → ℕ → List Part → Turned) → ℕ → List Part → List Shown → Spot → Turned
 picked go x parts rows (Spot.In k b pc) = go k b pc parts
-picked go x parts rows Spot.Between = begun go parts rows (least_due x parts)
+picked go x parts rows Spot.Between = block_begun go parts rows (least_due x parts)
 
 -- a turn with so many instructions left
 unfoldable pub turn : ℕ → ℕ → ℕ → Sensed → Times → Next
-turn zero x node sensed times spot parts rows = picked (λ k b pc ps. spent (instr_at ps k b pc)) x parts rows spot
+turn zero x node sensed times spot parts rows = picked (λ k b pc ps. spent (part_instr ps k b pc)) x parts rows spot
 turn (suc n) x node sensed times spot parts rows =
-    picked (λ k b pc ps. fetched (turn n x node sensed times) x node sensed times k b pc ps rows (slice_get ps k) (instr_at ps k b pc)) x parts rows spot
+    picked (λ k b pc ps. fetched (turn n x node sensed times) x node sensed times k b pc ps rows (slice_get ps k)
+    (part_instr ps k b pc)) x parts rows spot

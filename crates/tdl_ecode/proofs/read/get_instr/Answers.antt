@@ -10,8 +10,10 @@ pub returns-clause-only : goal.returns-clause-only
 returns-clause-only c = λ i begins. c.read.ensures ∙ reading_only c.args.bytes.now i begins
 
 pub returns-clause-short : goal.returns-clause-short
-returns-clause-short c =
-    (λ e. short_is c.args.bytes.now (λ k. omega (arith, c.type_inv.bytes k)) (sym c.read.ensures ∙ e), λ u. c.read.ensures ∙ short_from c.args.bytes.now u)
+returns-clause-short c = (
+  λ e. short_is c.args.bytes.now (λ k. omega (arith, c.type_inv.bytes k)) (sym c.read.ensures ∙ e),
+  λ u. c.read.ensures ∙ short_from c.args.bytes.now u,
+)
 
 pub returns-clause-unknown : goal.returns-clause-unknown
 returns-clause-unknown c =

@@ -1,5 +1,15 @@
-use Rattle.std.proofs.Common.{add-one}
+use Rattle.std.proofs.Common.{add-one, rules}
+use Rattle.tdl_host.proofs.act.act.Goals.{in-Call+in_ok-call-in-Call, in-Release+in_ok-release-in-Release, in-End+in_ok-end-in-End, in-Mode+in_ok-enter-in-Mode, in-Future, in-Take}
 use Rattle.tdl_host.proofs.act.act.Goals as goal
 
-pub returns-in_ok-enter-in-Mode-clause-ok : goal.returns-in_ok-enter-in-Mode-clause-ok
-returns-in_ok-enter-in-Mode-clause-ok c = rw (c.in-Mode.is, add-one) (c.in_ok-enter-in-Mode.ensures c.args.pc)
+pub returns-clause-ok : goal.returns-clause-ok
+returns-clause-ok c =
+    elim c.match-instr.branch [
+      | in-Call+in_ok-call-in-Call w ↦ search rules
+      | in-Release+in_ok-release-in-Release w ↦ search rules
+      | in-End+in_ok-end-in-End w ↦ search rules
+      | in-Mode+in_ok-enter-in-Mode w ↦
+          rw (w.in-Mode.is, w.state-is, w.rows-is, add-one) (w.in_ok-enter-in-Mode.ensures c.args.pc)
+      | in-Future w ↦ search rules
+      | in-Take w ↦ search rules
+    ]

@@ -2,7 +2,7 @@ use Rattle.std.proofs.Common.{◌≡◌, ◌∷◌, rules, [], List, sym, ap, �
 use Rattle.tdl_image.specs.declared.hosted.ImageWindow.{ImageWindow}
 use Rattle.tdl_verify.specs.States.{TaskNow}
 use Rattle.tdl_verify.specs.Micros.{is_live, tasks_run}
-use Rattle.tdl_host.specs.Hosts.{as_list}
+use Rattle.std.specs.Option.{option_to_list}
 use Rattle.tdl_host.proofs.CountLemmas.{run-counted}
 use Rattle.tdl_host.proofs.MicroLemmas.{tasks_run-idle}
 use Rattle.tdl_host.proofs.micro.run_micro.Goals as goal
@@ -10,11 +10,14 @@ use Rattle.tdl_host.proofs.micro.run_micro.Goals as goal
 pub returns-in_default-clause-ok : goal.returns-in_default-clause-ok
 returns-in_default-clause-ok c =
     let none : filter (is_live c.args.at c.args.state.now) c.args.hosted.now.windows ≡ [] =
-    c.in_ok-window.ensures.ok ∙ ap as_list c.in_default.is in
+    c.in_ok-window.ensures.ok ∙ ap option_to_list c.in_default.is in
     ap (λ (ts : List TaskNow). record c.args.state.now { tasks = ts })
-    (sym (ap (λ (ws : List ImageWindow). tasks_run ws c.args.hosted.now.tasks c.args.state.now.tasks) none ∙ tasks_run-idle c.args.hosted.now.tasks c.args.state.now.tasks))
+    (sym (ap (λ (ws : List ImageWindow). tasks_run ws c.args.hosted.now.tasks c.args.state.now.tasks) none
+    ∙ tasks_run-idle c.args.hosted.now.tasks c.args.state.now.tasks))
 
 pub returns-clause-released : goal.returns-clause-released
 returns-clause-released c bound n =
-    let work : c.work.new.self ≡ record c.args.state.now { tasks = tasks_run (c.in-Some.window ∷ []) c.args.hosted.now.tasks c.args.state.now.tasks } = search rules in
+    let work : c.work.new.self
+    ≡ record c.args.state.now
+    { tasks = tasks_run (c.in-Some.window ∷ []) c.args.hosted.now.tasks c.args.state.now.tasks } = search rules in
     run-counted bound (c.in-Some.window ∷ []) c.args.hosted.now.tasks c.args.state.now c.work.new.self work n

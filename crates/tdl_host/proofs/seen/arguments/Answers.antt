@@ -12,6 +12,10 @@ loop-i-preserved c =
     let f = value_at c.args.scene.hosted.now c.args.state.now c.args.scene.senses.now c.args.scene.at in
     let fits : FitsSigned w64 c.narrow.result = search rules in
     let narrows : c.narrow.result ≡ narrowed c.kind_of.result c.in_ok-exact.exact = search rules in
-    let is : to_z w64 (of_z w64 c.narrow.result) ≡ narrowed (get_or c.args.kinds.now c.loop-i.i Long) (f c.index-codes-i.result) =
-    to_z-of_z w64 c.narrow.result fits ∙ narrows ∙ ap (λ k. narrowed k c.in_ok-exact.exact) c.kind_of.ensures ∙ ap (λ v. narrowed (get_or c.args.kinds.now c.loop-i.i Long) v) c.in_ok-exact.ensures in
-    arguments-more f c.args.kinds.now c.args.codes.now c.loop-i.i c.loop-i.numbers.items c.push.new.self.items (arguments f c.args.kinds.now c.args.codes.now) c.index-codes-i.result (to_z w64 (of_z w64 c.narrow.result)) c.loop-i-test.true c.index-codes-i.is is c.in_ok-push.ensures.items c.loop-i.invariant
+    let is : to_z w64 (of_z w64 c.narrow.result)
+    ≡ narrowed (get_or c.args.kinds.now c.loop-i.i Long) (f c.index-codes-i.result) =
+    to_z-of_z w64 c.narrow.result fits ∙ narrows ∙ ap (λ k. narrowed k c.in_ok-exact.exact) c.kind_of.ensures
+    ∙ ap (λ v. narrowed (get_or c.args.kinds.now c.loop-i.i Long) v) c.in_ok-exact.ensures in
+    arguments-more f c.args.kinds.now c.args.codes.now c.loop-i.i c.loop-i.numbers.items c.push.new.self.items
+    (arguments f c.args.kinds.now c.args.codes.now) c.index-codes-i.result (to_z w64 (of_z w64 c.narrow.result))
+    c.loop-i-test.true c.index-codes-i.is is c.in_ok-push.ensures.items c.loop-i.invariant

@@ -5,4 +5,7 @@ use Rattle.tdl_host.proofs.seen.arguments.Given as goal
 
 abbrev pub invariant-loop-i : goal.invariant-loop-i
 invariant-loop-i l =
-    l.numbers.items ++ arguments (value_at l.scene.hosted.now l.state l.scene.senses.now l.scene.at) (drop l.i l.kinds) (drop l.i l.codes) ≡ arguments (value_at l.scene.hosted.now l.state l.scene.senses.now l.scene.at) l.kinds l.codes
+    l.numbers.items
+    ++ arguments (value_at l.scene.hosted.now l.state l.scene.senses.now l.scene.at) (drop l.i l.kinds)
+    (drop l.i l.codes)
+    ≡ arguments (value_at l.scene.hosted.now l.state l.scene.senses.now l.scene.at) l.kinds l.codes

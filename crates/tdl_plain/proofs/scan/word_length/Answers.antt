@@ -6,4 +6,5 @@ pub returns-then-length-gt-IDENTIFIER_BYTES : goal.returns-then-length-gt-IDENTI
 returns-then-length-gt-IDENTIFIER_BYTES c = word_none c.args.bytes.now c.requires (omega arith)
 
 pub returns : goal.returns
-returns c = word_some c.args.bytes.now c.identifier_run-length.result c.requires c.identifier_run-length.ensures (omega arith)
+returns c =
+    word_some c.args.bytes.now c.identifier_run-length.result c.requires c.identifier_run-length.ensures (omega arith)

@@ -1,6 +1,7 @@
 use Rattle.std.proofs.Common.{sym, ◌∙◌}
-use Rattle.tdl_plain.proofs.Values.{word_behind}
+use Rattle.tdl_plain.proofs.Values.{word_after}
 use Rattle.tdl_plain.proofs.words.is_word.Goals as goal
 
 pub returns-then-is_letter : goal.returns-then-is_letter
-returns-then-is_letter c = c.are_name_bytes.ensures ∙ word_behind c.args.token.now (sym c.is_letter.ensures ∙ c.if-is_letter.true)
+returns-then-is_letter c =
+    c.are_name_bytes.ensures ∙ word_after c.args.token.now (sym c.is_letter.ensures ∙ c.if-is_letter.true)

@@ -4,4 +4,5 @@ use Rattle.tdl_read.proofs.names.sensor_names.Given as goal
 
 -- the first sensors are named
 abbrev pub invariant-loop-sensor : goal.invariant-loop-sensor
-invariant-loop-sensor l = l.list ++ map texts.sensor_named (drop l.sensor-index l.sensors) ≡ map texts.sensor_named l.sensors
+invariant-loop-sensor l =
+    l.list ++ map texts.sensor_named (drop l.sensor-index l.sensors) ≡ map texts.sensor_named l.sensors

@@ -10,9 +10,11 @@ returns-in-Err-NotPlain-clause-refused g c = λ call word has.
         has = has;
         is = record {
           bytes = c.in_ok-bytes.bytes.items;
-          read = record { reads = c.in_ok-bytes.ensures.read; within = c.in_ok-bytes.ensures.within };
+          read = c.in_ok-bytes.ensures.ok;
           other = λ scenario plain.
-              c.in-Err-NotPlain.ensures.refused scenario (rw (c.sensor_of.ensures.owner, c.sensor_of.ensures.sensor, c.deref.ensures.value) plain) (ap Err c.in-Err-NotPlain.field-0-is);
+              c.in-Err-NotPlain.ensures.refused scenario
+              (rw (c.sensor_of.ensures.owner, c.sensor_of.ensures.sensor, c.deref.ensures.value) plain)
+              (ap Err c.in-Err-NotPlain.field-0-is);
         };
       },
     )

@@ -1,8 +1,9 @@
 use Rattle.std.proofs.Common.{List, ℕ, subst, ap, Err}
 use Rattle.std.proofs.lemmas.Result.{err_from_is_err_and}
 use Rattle.tdl_io.specs.Outside.{Appends, AppendsPart}
-use Rattle.tdl_host.specs.Hosts.{worst_of}
-use Rattle.tdl_walk.proofs.Appending.{part_none}
+use Rattle.tdl_host.specs.Hosts.{worst_times}
+use Rattle.tdl_io.proofs.Appending.{part_none}
+use Rattle.tdl_scen.proofs.SensesLemmas.{rising_in_order}
 use Rattle.tdl_top.proofs.Printing.{same_text, no_trap}
 use Rattle.tdl_top.proofs.print.print_run.Goals as goal
 
@@ -12,30 +13,44 @@ returns-in_err-names-clause-refused g c =
 
 pub returns-in_err-machine-clause-refused : goal.returns-in_err-machine-clause-refused
 returns-in_err-machine-clause-refused g c =
-    let p = err_from_is_err_and c.from_residual-in_err-machine.result c.from_residual-in_err-machine.ensures.1 in rw (p.1, p.2) (part_none _ _)
+    let p = err_from_is_err_and c.from_residual-in_err-machine.result c.from_residual-in_err-machine.ensures.1 in
+    rw (p.1, p.2) (part_none _ _)
 
 pub returns-in-Ok-clause-ok : goal.returns-in-Ok-clause-ok
 returns-in-Ok-clause-ok g c =
-    subst (λ (text : List ℕ). Appends (g.O.Sink.contents c.args.out.now) (g.O.Sink.contents c.run.new.out) text)
-    (same_text c.args.bundle.now c.args.scenario.now _ _ _ c.in_ok-names.ensures c.as_slice-senses.ensures (c.in_ok-machine.ensures.times c.args.scenario.now c.requires.times))
+    subst (λ (text : List ℕ). Appends (g.O.Sink.told c.args.out.now).contents (g.O.Sink.told c.run.new.out).contents
+    text)
+    (same_text c.args.bundle.now c.args.scenario.now _ _ _ c.in_ok-names.ensures c.as_slice-senses.ensures
+    (c.in_ok-machine.ensures.times c.args.scenario.now c.requires.times))
     c.in-Ok.ensures.ok
 
 pub unreachable-requires : goal.unreachable-requires
 unreachable-requires g c =
-    no_trap c.args.bundle.now c.args.scenario.now c.as_slice-senses.result.now (worst_of c.in_ok-machine.machine.host) c.in-Err-Trapped.field-0 c.in-Err-Trapped.field-0-0
-    c.requires.plain c.requires.times c.as_slice-senses.ensures (c.in_ok-machine.ensures.times c.args.scenario.now c.requires.times)
+    no_trap c.args.bundle.now c.args.scenario.now c.as_slice-senses.result.now
+    (worst_times c.in_ok-machine.machine.host)
+    c.in-Err-Trapped.field-0 c.in-Err-Trapped.field-0-0
+    c.requires.plain c.requires.times c.as_slice-senses.ensures
+    (c.in_ok-machine.ensures.times c.args.scenario.now c.requires.times)
     c.in-Err-Trapped.field-0-is c.in-Err-Trapped.ensures.trapped
 
 pub returns-in-Err-WriteFailed-clause-refused : goal.returns-in-Err-WriteFailed-clause-refused
 returns-in-Err-WriteFailed-clause-refused g c = (
   c.in-Err-WriteFailed.ensures.cause (ap Err c.in-Err-WriteFailed.field-0-is),
-  subst (λ (text : List ℕ). AppendsPart (g.O.Sink.contents c.args.out.now) (g.O.Sink.contents c.run.new.out) text)
-      (same_text c.args.bundle.now c.args.scenario.now _ _ _ c.in_ok-names.ensures c.as_slice-senses.ensures (c.in_ok-machine.ensures.times c.args.scenario.now c.requires.times))
+  subst (λ (text : List ℕ). AppendsPart (g.O.Sink.told c.args.out.now).contents (g.O.Sink.told c.run.new.out).contents
+      text)
+      (same_text c.args.bundle.now c.args.scenario.now _ _ _ c.in_ok-names.ensures c.as_slice-senses.ensures
+      (c.in_ok-machine.ensures.times c.args.scenario.now c.requires.times))
       c.in-Err-WriteFailed.ensures.err,
 )
 
 pub returns-clause-refused : goal.returns-clause-refused
 returns-clause-refused g c =
-    subst (λ (text : List ℕ). AppendsPart (g.O.Sink.contents c.args.out.now) (g.O.Sink.contents c.run.new.out) text)
-    (same_text c.args.bundle.now c.args.scenario.now _ _ _ c.in_ok-names.ensures c.as_slice-senses.ensures (c.in_ok-machine.ensures.times c.args.scenario.now c.requires.times))
+    subst (λ (text : List ℕ). AppendsPart (g.O.Sink.told c.args.out.now).contents
+    (g.O.Sink.told c.run.new.out).contents text)
+    (same_text c.args.bundle.now c.args.scenario.now _ _ _ c.in_ok-names.ensures c.as_slice-senses.ensures
+    (c.in_ok-machine.ensures.times c.args.scenario.now c.requires.times))
     c.in-Err-NoMemory.ensures.err
+
+pub run-requires-clause-order : goal.run-requires-clause-order
+run-requires-clause-order g c =
+    rw c.as_slice-senses.ensures (rising_in_order c.args.scenario.now.senses c.requires.rising)

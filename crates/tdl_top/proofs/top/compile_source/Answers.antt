@@ -2,23 +2,31 @@ use Rattle.std.proofs.Common.{refl}
 use Rattle.std.proofs.lemmas.Result.{err_from_is_err_and, on_ok_weaker, IfErr-weaker}
 use Rattle.tdl_read.proofs.Hosts.{plain_spellable}
 use Rattle.tdl_top.specs.declared.words.Call.TheVariants.{Compile}
-use Rattle.tdl_top.proofs.Saying.{says_input, says_save, input_not_ok, input_no_save, told_quiet, others_since}
+use Rattle.tdl_top.proofs.InputsSay.{input_not_ok, input_no_save}
+use Rattle.tdl_top.proofs.Saying.{says_input, says_save, others_since}
+use Rattle.tdl_top.proofs.Reported.{told_quiet}
 use Rattle.tdl_top.proofs.top.compile_source.Goals as goal
 
 pub returns-in_err-bundle-clause-refused : goal.returns-in_err-bundle-clause-refused
 returns-in_err-bundle-clause-refused g c = λ out silent.
     let p = err_from_is_err_and c.from_residual.result c.from_residual.ensures.1 in
-    rw (p.1, p.2) (says_input _ _ out (Compile c.args.place) _ c.read_source.ensures.held silent (c.in_err-bundle.ensures.refused (Compile c.args.place) tt))
+    rw (p.1, p.2)
+    (says_input _ _ out (Compile c.args.place) _ c.read_source.ensures.loads.held silent
+    (c.in_err-bundle.ensures.refused (Compile c.args.place) tt))
 
 pub returns-in_err-bundle-clause-not_ok : goal.returns-in_err-bundle-clause-not_ok
 returns-in_err-bundle-clause-not_ok g c =
     let p = err_from_is_err_and c.from_residual.result c.from_residual.ensures.1 in
-    rw (p.1, p.2) (input_not_ok _ _ (Compile c.args.place) _ (c.in_err-bundle.ensures.refused (Compile c.args.place) tt))
+    rw (p.1, p.2)
+    (input_not_ok _ _ (Compile c.args.place) _ (c.in_err-bundle.ensures.refused (Compile c.args.place) tt))
 
 pub returns-in_err-bundle-clause-told : goal.returns-in_err-bundle-clause-told
 returns-in_err-bundle-clause-told g c =
     let p = err_from_is_err_and c.from_residual.result c.from_residual.ensures.1 in
-    rw (p.1, p.2) (told_quiet _ _ _ (input_no_save _ _ (Compile c.args.place) _ (c.in_err-bundle.ensures.refused (Compile c.args.place) tt)) (record { contents = refl; count = refl }))
+    rw (p.1, p.2)
+    (told_quiet _ _ _
+    (input_no_save _ _ (Compile c.args.place) _ (c.in_err-bundle.ensures.refused (Compile c.args.place) tt))
+    (record { contents = refl; count = refl }))
 
 pub save_bundle-requires : goal.save_bundle-requires
 save_bundle-requires g c = plain_spellable c.in_ok-bundle.bundle c.in_ok-bundle.ensures.plain
@@ -29,14 +37,19 @@ returns-clause-ok g c = λ out silent.
     record {
       bundle = c.in_ok-bundle.bundle;
       has = c.in_ok-bundle.ensures.ok (Compile c.args.place) tt;
-      leaves = (saved, others_since _ _ _ _ c.read_source.ensures.held c.save_bundle.ensures.others);
+      leaves = (
+        saved,
+        others_since (g.F.Files.told c.args.files.now) (g.F.Files.told c.read_source.new.files) _ _
+            c.read_source.ensures.loads c.save_bundle.ensures.others,
+      );
       prints = silent;
     }) c.save_bundle.ensures.ok
 
 pub returns-clause-refused : goal.returns-clause-refused
 returns-clause-refused g c = λ out silent.
     IfErr-weaker c.save_bundle.result _ _ (λ status says.
-    says_save _ _ _ _ _ _ _ _ (g.F.Files.failed_loads c.read_source.new.files) (g.F.Files.failed_loads c.save_bundle.new.files) _ _ _ _ out (Compile c.args.place) c.in_ok-bundle.bundle c.args.place status
-    c.read_source.ensures.held c.read_source.ensures.later c.read_source.ensures.saves
-    (c.in_ok-bundle.ensures.ok (Compile c.args.place) tt) tt refl c.save_bundle.ensures.others silent says)
+    says_save (g.F.Files.told c.args.files.now) (g.F.Files.told c.read_source.new.files)
+    (g.F.Files.told c.save_bundle.new.files) _ out (Compile c.args.place) c.in_ok-bundle.bundle c.args.place status
+    c.read_source.ensures.loads (c.in_ok-bundle.ensures.ok (Compile c.args.place) tt) tt refl
+    c.save_bundle.ensures.others silent says)
     c.save_bundle.ensures.refused

@@ -1,18 +1,19 @@
 use Rattle.std.proofs.Common.{refl, ap, sym, ◌∙◌, Some}
 use Rattle.std.proofs.lemmas.Result.{IfErr-weaker}
 use Rattle.tdl_top.specs.declared.words.Call.TheVariants.{Compile}
-use Rattle.tdl_top.specs.Words.{texts, call_of}
+use Rattle.tdl_top.specs.Words.{texts, call_in}
 use Rattle.tdl_top.specs.Calls.{files_call, sink_call}
-use Rattle.tdl_top.proofs.Saying.{says_called}
+use Rattle.tdl_top.proofs.Reported.{says_called}
 use Rattle.tdl_top.proofs.top.perform.Goals as goal
 
 pub returns-in-Some-Compile-clause-refused : goal.returns-in-Some-Compile-clause-refused
 returns-in-Some-Compile-clause-refused g c =
     IfErr-weaker c.compile_source.result _ _ (λ status says.
     says_called
-    (files_call g.F.Files.holds g.F.Files.faults g.F.Files.failed_loads g.F.Files.failed_saves c.args.files.now c.compile_source.new.files)
+    (files_call g.F.Files.told c.args.files.now c.compile_source.new.files)
     (texts c.args.words.now)
-    (sink_call g.O.Sink.contents g.O.Sink.faults c.args.out.now c.args.out.now)
-    (call_of (texts c.args.words.now)) (Compile c.in-Some-Compile.place) status (ap Some (sym c.in-Some-Compile.field-0-is) ∙ c.in-Some-Compile.ensures) says)
+    (sink_call g.O.Sink.told c.args.out.now c.args.out.now)
+    (call_in (texts c.args.words.now)) (Compile c.in-Some-Compile.place) status
+    (ap Some (sym c.in-Some-Compile.field-0-is) ∙ c.in-Some-Compile.ensures) says)
     (c.compile_source.ensures.refused
-    (sink_call g.O.Sink.contents g.O.Sink.faults c.args.out.now c.args.out.now) refl)
+    (sink_call g.O.Sink.told c.args.out.now c.args.out.now) refl)

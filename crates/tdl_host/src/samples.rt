@@ -1,0 +1,159 @@
+//! A module of one job, with a guard, a driver and two modes.
+ghost use Rattle.std.specs.Prelude.{◌≡◌, false, All, IfOk};
+ghost use Rattle.tdl_image.specs.declared.hosted.ImageWindow.{ImageWindow};
+ghost use Rattle.tdl_node.specs.Machines.{IsOneHost};
+
+use std::alloc::Global;
+use tdl_base::{BinOp, Kind, Listed, ModuleId, NoMemory, Place, PortKey, TaskId, Text};
+use tdl_ecode::{Block, EInstr};
+use tdl_image::{
+    Bundle, CallEntry, Driver, Hosted, Image, ImageWindow, Initial, ReleaseEntry, TaskTable,
+};
+use tdl_stack::{Code, Instr};
+
+fn list<T: Copy>(alloc: Global, items: &[T]) -> Result<Listed<T>, NoMemory>
+    ensures { IfOk result (λ list. list ≡ items.now) }
+{
+    let items = Vec::from_slice(alloc, items)?;
+    Ok(Listed::from_vec(items))
+}
+
+fn code(alloc: Global, instrs: &[Instr]) -> Result<Code, NoMemory> {
+    Ok(Code {
+        instrs: list(alloc, instrs)?,
+    })
+}
+
+fn port(alloc: Global, kind: Kind) -> Result<Listed<Initial>, NoMemory> {
+    let port = Initial {
+        kind,
+        name: Text::from_str(alloc, "p")?,
+        initial: 1,
+    };
+    Listed::only(alloc, port)
+}
+
+const BLOCKS: [(u8, &[EInstr]); 5] = [
+    (3, &[EInstr::Mode(0), EInstr::Future(0, 1), EInstr::Return]),
+    (
+        4,
+        &[EInstr::Release(0), EInstr::Future(5, 2), EInstr::Return],
+    ),
+    (1, &[EInstr::End(0), EInstr::Future(0, 3), EInstr::Return]),
+    (
+        2,
+        &[
+            EInstr::If(0, 2),
+            EInstr::Call(0),
+            EInstr::Future(0, 4),
+            EInstr::Return,
+        ],
+    ),
+    (
+        3,
+        &[
+            EInstr::Mode(1),
+            EInstr::Jump(3),
+            EInstr::Mode(0),
+            EInstr::Return,
+        ],
+    ),
+];
+
+fn blocks(alloc: Global) -> Result<Listed<Block>, NoMemory> {
+    let mut blocks = Listed::new(alloc);
+    for (phase, code) in BLOCKS {
+        blocks.push(Block {
+            phase,
+            code: list(alloc, code)?,
+        })?;
+    }
+    Ok(blocks)
+}
+
+fn table(alloc: Global) -> Result<TaskTable, NoMemory> {
+    let sum = [
+        Instr::Load(Place::Cell(1)),
+        Instr::Load(Place::Cell(0)),
+        Instr::Bin(BinOp::Add),
+        Instr::Store(1),
+    ];
+    Ok(TaskTable {
+        name: Text::from_str(alloc, "inc")?,
+        worst: 2,
+        inputs: Listed::only(alloc, Kind::Int)?,
+        outputs: port(alloc, Kind::Int)?,
+        locals: Listed::only(alloc, Kind::Int)?,
+        body: code(alloc, &sum)?,
+    })
+}
+
+fn sensor_code(alloc: Global) -> Result<Code, NoMemory> {
+    code(alloc, &[Instr::Load(Place::Sensor(0))])
+}
+
+fn output_code(alloc: Global) -> Result<Code, NoMemory> {
+    let key = PortKey {
+        module: ModuleId(0),
+        task: TaskId(0),
+        output: 0,
+    };
+    code(alloc, &[Instr::Load(Place::Port(key))])
+}
+
+/// A module whose job has a window of so many microseconds from 1 on, an actuator that takes the
+/// output where the sensor is not 0, and a second mode.
+fn module(alloc: Global, length: u32) -> Result<Hosted, NoMemory>
+    ensures { IfOk result (λ host. All (λ (w : ImageWindow). w.bus ≡ false) host.windows) }
+{
+    let call = CallEntry {
+        task: 0,
+        args: Listed::only(alloc, sensor_code(alloc)?)?,
+    };
+    let release = ReleaseEntry {
+        mode: 0,
+        invocation: 1,
+        call: 0,
+    };
+    let driver = Driver {
+        actuator: 0,
+        value: output_code(alloc)?,
+    };
+    let window = ImageWindow {
+        bus: false,
+        mode: 0,
+        invocation: 1,
+        offset: 1,
+        length,
+    };
+    Ok(Hosted {
+        number: ModuleId(0),
+        name: Text::from_str(alloc, "M")?,
+        sensors: Listed::new(alloc),
+        actuators: port(alloc, Kind::Byte)?,
+        tasks: Listed::only(alloc, table(alloc)?)?,
+        modes: Listed::new(alloc),
+        calls: Listed::only(alloc, call)?,
+        releases: Listed::only(alloc, release)?,
+        guards: Listed::only(alloc, sensor_code(alloc)?)?,
+        drivers: Listed::only(alloc, driver)?,
+        windows: Listed::only(alloc, window)?,
+        blocks: blocks(alloc)?,
+        entry: 0,
+    })
+}
+
+/// The bundle of a node that hosts such a module alone, and does so many instructions an instant.
+pub fn alone(alloc: Global, declared: u32, length: u32) -> Result<Bundle, NoMemory>
+    ensures { IfOk result (λ bundle. IsOneHost bundle) }
+{
+    let image = Image {
+        node: Text::from_str(alloc, "n1")?,
+        declared,
+        hosted: Listed::only(alloc, module(alloc, length)?)?,
+        stubs: Listed::new(alloc),
+    };
+    Ok(Bundle {
+        images: Listed::only(alloc, image)?,
+    })
+}

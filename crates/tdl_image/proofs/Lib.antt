@@ -1,0 +1,3 @@
+pub mod PrefixFree
+pub mod OneSpelling
+pub mod Examples
