@@ -1,3 +1,5 @@
 pub mod Equations
 pub mod Reading
 pub mod StatementExamples
+pub mod BoundEquations
+pub mod BoundExamples

@@ -3,7 +3,6 @@ use Rattle.std.proofs.Common.{◌≡◌, ℕ, ℤ, pos, [], ◌∷◌, Some, Non
 use Rattle.std.specs.Int.{int_wrap}
 use Rattle.tdl_base.specs.declared.kinds.Kind.TheVariants.{Int}
 use Rattle.tdl_base.specs.declared.numbers.Place.TheVariants.{Cell}
-use Rattle.tdl_base.specs.declared.arithmetic.BinOp.TheVariants.{Add}
 use Rattle.tdl_base.specs.Numbers.{is_true}
 use Rattle.tdl_body.specs.declared.tree.Body.{Body}
 use Rattle.tdl_body.specs.declared.tree.Expr.{Expr}
@@ -12,6 +11,7 @@ use Rattle.tdl_body.specs.declared.tree.Stmt.TheVariants as stmt
 use Rattle.tdl_body.specs.declared.tree.Stmt.TheOpen.{Stmt-F}
 use Rattle.tdl_body.specs.declared.tree.Stmt.TheViews.{roll-Stmt}
 use Rattle.tdl_body.specs.Values.{value_of}
+use Rattle.tdl_body.specs.Examples.{sets, adds_thrice}
 use Rattle.tdl_base.specs.Cells.{Cells, repeated}
 use Rattle.tdl_body.specs.Effects.{effect_of, look_of_cells}
 use Rattle.tdl_body.proofs.Equations.{Effect, effect_of_stmt, effect_of_stmt-roll, effect_of_stmt-assign, effect_of-stmts, value_of-const, value_of-load, value_of-bin}
@@ -45,14 +45,6 @@ done_one-repeat n block cells = ap (λ (f : Effect). f cells) (effect_of_stmt-ro
 abbrev cells_of : ℤ → ℤ → Cells
 cells_of a o = record { kinds = Int ∷ Int ∷ []; values = a ∷ o ∷ [] }
 
--- o := v;
-abbrev sets : ℤ → Body
-sets v = record { stmts = stmt.Assign 1 (expr.Const v) ∷ [] }
-
--- o := o + a;
-abbrev adds : Body
-adds = record { stmts = stmt.Assign 1 (expr.Bin Add (expr.Load (Cell 1)) (expr.Load (Cell 0))) ∷ [] }
-
 -- if a { o := 1; } else { o := 2; }
 abbrev chooses : Body
 chooses = record { stmts = stmt.If (expr.Load (Cell 0)) (sets (pos 1)) (Some (sets (pos 2))) ∷ [] }
@@ -60,10 +52,6 @@ chooses = record { stmts = stmt.If (expr.Load (Cell 0)) (sets (pos 1)) (Some (se
 -- if a { o := 1; }
 abbrev sets_one : Body
 sets_one = record { stmts = stmt.If (expr.Load (Cell 0)) (sets (pos 1)) None ∷ [] }
-
--- repeat 3 { o := o + a; }
-abbrev adds_thrice : Body
-adds_thrice = record { stmts = stmt.Repeat 3 adds ∷ [] }
 
 -- an `if` whose number is not 0 does its first block
 done-then : effect_of chooses (cells_of (pos 5) (pos 7)) ≡ cells_of (pos 5) (pos 1)

@@ -1,5 +1,5 @@
 -- What a body does to its cells.
-use Rattle.std.specs.Prelude.{ℕ, pos, List, [], ◌∷◌, if◌then◌else◌, slice_index_or, Option, Some, None}
+use Rattle.std.specs.Prelude.{pos, List, [], ◌∷◌, if◌then◌else◌, slice_index_or, Option, Some, None}
 use Rattle.tdl_base.specs.Numbers.{is_true}
 use Rattle.tdl_base.specs.Cells.{Cells, stored, repeated}
 use Rattle.tdl_body.specs.declared.tree.Body.{Body}

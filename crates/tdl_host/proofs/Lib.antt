@@ -5,3 +5,5 @@ pub mod PlainLemmas
 pub mod TurnLemmas
 pub mod MicroLemmas
 pub mod CountLemmas
+pub mod CheckedLemmas
+pub mod PlainCodes

@@ -1,4 +1,4 @@
-ghost use Rattle.std.specs.Prelude.{◌≡◌, ◌++◌, ◌+◌, ◌-◌, ◌<◌, ◌^◌, ℕ, suc, List, IfOk, OnOk, IfErr, option_map, unwrap_or, slice_get, replicate, length, pos};
+ghost use Rattle.std.specs.Prelude.{◌≡◌, All, ◌++◌, ◌+◌, ◌-◌, ◌<◌, ◌^◌, ℕ, suc, List, IfOk, OnOk, IfErr, option_map, unwrap_or, slice_get, replicate, length, pos};
 ghost use Rattle.tdl_base.specs.declared.numbers.TheConstants.{FIRST_NODE};
 ghost use Rattle.tdl_base.specs.declared.kinds.Kind.TheVariants.{Long};
 ghost use Rattle.tdl_base.specs.Numbers.{is_true};
@@ -6,6 +6,7 @@ ghost use Rattle.tdl_trace.specs.Shown.{Shown};
 ghost use Rattle.tdl_verify.specs.States.{Part};
 ghost use Rattle.tdl_verify.specs.Turns.{Acted, output_rows, no_code, arguments};
 ghost use Rattle.tdl_node.specs.Machines.{IsTrap};
+ghost use Rattle.tdl_host.specs.CheckedCodes.{IsCheckedCode, HasCheckedCodes};
 ghost use Rattle.tdl_host.specs.Hosts.{HasReleased, acts, value_at, task_outputs, went};
 
 use crate::seen::{Scene, arguments, value};
@@ -88,13 +89,8 @@ fn actuator_kind(hosted: &Hosted, actuator: u16) -> Kind
 }
 
 /// Calls a driver: its actuator takes the number of its expression.
-fn call(
-    alloc: Global,
-    scene: Scene,
-    state: &mut HostState,
-    driver: u16,
-    rows: &mut Rows,
-) -> Result<(), NoMemory>
+fn call(scene: Scene, state: &mut HostState, driver: u16, rows: &mut Rows) -> Result<(), NoMemory>
+    requires { HasCheckedCodes scene.hosted.now }
     ensures { OnOk result
         ((pc : ℕ) → acts scene.entry.hosted.now scene.entry.senses.now scene.entry.at rows.old
         state.old pc (EInstr.Call driver)
@@ -103,7 +99,7 @@ fn call(
     let Some(driver) = scene.hosted.drivers.get(usize::from(driver)) else {
         return Ok(());
     };
-    let exact = value(alloc, scene, state, &driver.value)?;
+    let exact = value(scene, state, &driver.value);
     let kept = narrow(actuator_kind(scene.hosted, driver.actuator), exact);
     state.update(driver.actuator, kept);
     rows.push(Row::Act {
@@ -124,6 +120,7 @@ fn first_cells(
     call: &CallEntry,
     table: &TaskTable,
 ) -> Result<Listed<i64>, NoMemory>
+    requires { All IsCheckedCode call.now.args }
     ensures { IfOk result
         (λ cells. cells
         ≡ arguments (value_at scene.entry.hosted.now state.now scene.entry.senses.now
@@ -145,7 +142,8 @@ fn first_cells(
 
 /// Releases a job: it starts, where the slot of its task is idle.
 fn release(alloc: Global, scene: Scene, state: &mut HostState, release: u16) -> Result<(), Stop>
-    requires { HasReleased (2 ^ 64 - 2) state.old }
+    requires codes { HasCheckedCodes scene.hosted.now }
+    requires released { HasReleased (2 ^ 64 - 2) state.old }
     ensures ok { OnOk result
         ((rows : List Shown) (pc : ℕ) →
         acts scene.entry.hosted.now scene.entry.senses.now scene.entry.at rows state.old pc
@@ -201,38 +199,30 @@ fn enter(scene: Scene, state: &mut HostState, mode: u16, rows: &mut Rows) -> Res
 }
 
 /// Whether a guard holds; none where there is no such guard.
-fn holds(alloc: Global, scene: Scene, state: &HostState, guard: u16) -> Result<bool, NoMemory>
-    ensures { IfOk result
-        (λ truth. truth
+fn holds(scene: Scene, state: &HostState, guard: u16) -> bool
+    requires { HasCheckedCodes scene.hosted.now }
+    ensures { result
         ≡ is_true (value_at scene.entry.hosted.now state.now scene.entry.senses.now scene.entry.at
-        (unwrap_or (slice_get scene.entry.hosted.now.guards guard) no_code))) }
+        (unwrap_or (slice_get scene.entry.hosted.now.guards guard) no_code)) }
 {
     let Some(guard) = scene.hosted.guards.get(usize::from(guard)) else {
-        return Ok(false);
+        return false;
     };
-    let exact = value(alloc, scene, state, guard)?;
-    Ok(exact != 0)
+    value(scene, state, guard) != 0
 }
 
 /// Goes on at the next index, or at the other one where the guard does not hold.
-fn branch(
-    alloc: Global,
-    scene: Scene,
-    state: &HostState,
-    pc: usize,
-    guard: u16,
-    otherwise: u32,
-) -> Result<Next, NoMemory>
-    requires { pc + 1 < 2 ^ 64 }
-    ensures { IfOk result
-        (λ next. (rows : List Shown) →
+fn branch(scene: Scene, state: &HostState, pc: usize, guard: u16, otherwise: u32) -> Next
+    requires room { pc + 1 < 2 ^ 64 }
+    requires codes { HasCheckedCodes scene.hosted.now }
+    ensures { (rows : List Shown) →
         acts scene.entry.hosted.now scene.entry.senses.now scene.entry.at rows state.now pc
-        (EInstr.If guard otherwise) ≡ went next scene.entry.hosted.now state.now rows) }
+        (EInstr.If guard otherwise) ≡ went result scene.entry.hosted.now state.now rows }
 {
-    if !holds(alloc, scene, state, guard)? {
-        return Ok(Next::On(otherwise as usize));
+    if !holds(scene, state, guard) {
+        return Next::On(otherwise as usize);
     }
-    Ok(Next::On(pc + 1))
+    Next::On(pc + 1)
 }
 
 /// Does an instruction that stands at an index of a block.
@@ -245,6 +235,7 @@ pub fn act(
     rows: &mut Rows,
 ) -> Result<Next, Stop>
     requires room { pc + 1 < 2 ^ 64 }
+    requires codes { HasCheckedCodes scene.hosted.now }
     requires released { HasReleased (2 ^ 64 - 2) state.old }
     ensures ok { IfOk result
         (λ next. acts scene.entry.hosted.now scene.entry.senses.now scene.entry.at rows.old
@@ -257,9 +248,9 @@ pub fn act(
         EInstr::Return => return Ok(Next::Over),
         EInstr::Jump(at) => return Ok(Next::On(at as usize)),
         EInstr::If(guard, otherwise) => {
-            return Ok(branch(alloc, scene, state, pc, guard, otherwise)?);
+            return Ok(branch(scene, state, pc, guard, otherwise));
         }
-        EInstr::Call(driver) => call(alloc, scene, state, driver, rows)?,
+        EInstr::Call(driver) => call(scene, state, driver, rows)?,
         EInstr::Release(entry) => release(alloc, scene, state, entry)?,
         EInstr::End(task) => end(scene, state, task, rows)?,
         EInstr::Mode(mode) => enter(scene, state, mode, rows)?,

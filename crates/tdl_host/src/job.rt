@@ -1,11 +1,12 @@
 ghost use Rattle.std.specs.Prelude.{◌≡◌, ◌∷◌, [], ◌++◌, length, map, take, drop, IfOk};
 ghost use Rattle.tdl_stack.specs.Running.{outputs_after};
 ghost use Rattle.tdl_verify.specs.Micros.{cells_of, worked, slot_run};
+ghost use Rattle.tdl_host.specs.CheckedCodes.{IsCheckedCode};
 ghost use Rattle.tdl_host.specs.Hosts.{slot_now};
 
 use std::alloc::Global;
 use tdl_base::{Kind, Listed, NoMemory};
-use tdl_eval::run_body;
+use tdl_exec::{Cells, run_code};
 use tdl_image::{ImageWindow, TaskTable};
 
 /// Where the job of a task stands.
@@ -51,17 +52,19 @@ fn cut(alloc: Global, cells: &[i64], from: usize, count: usize) -> Result<Vec<i6
 }
 
 /// The outputs of a job whose body is run on its cells.
-fn finish(alloc: Global, table: &TaskTable, mut cells: Listed<i64>) -> Result<Listed<i64>, NoMemory>
+fn finish(alloc: Global, table: &TaskTable, numbers: Listed<i64>) -> Result<Listed<i64>, NoMemory>
+    requires { IsCheckedCode table.now.body }
     ensures { IfOk result
         (λ outputs. outputs
         ≡ outputs_after (length table.now.inputs) (length table.now.outputs) table.now.body.instrs
-        (cells_of table.now cells)) }
+        (cells_of table.now numbers)) }
 {
     let kinds = kinds_of(alloc, table)?;
-    run_body(alloc, &table.body, &kinds, &mut cells)?;
+    let mut cells = Cells::new(Listed::from_vec(kinds), numbers);
+    run_code(&table.body, &mut cells);
     let outputs = cut(
         alloc,
-        cells.as_slice(),
+        cells.values(),
         table.inputs.len(),
         table.outputs.len(),
     )?;
@@ -77,6 +80,7 @@ fn worked(
     left: u32,
     cells: Listed<i64>,
 ) -> Result<JobSlot, NoMemory>
+    requires { IsCheckedCode table.now.body }
     ensures { IfOk result (λ next. slot_now next ≡ worked table.now mode invocation left cells) }
 {
     if left != 1 {
@@ -102,6 +106,7 @@ pub fn slot_after(
     table: &TaskTable,
     window: &ImageWindow,
 ) -> Result<JobSlot, NoMemory>
+    requires { IsCheckedCode table.now.body }
     ensures { IfOk result
         (λ next. slot_now next ≡ slot_run (window.now ∷ []) table.now (slot_now slot)) }
 {

@@ -3,6 +3,7 @@ ghost use Rattle.tdl_scen.specs.declared.entries.Scenario.{Scenario};
 ghost use Rattle.tdl_verify.specs.States.{Part};
 ghost use Rattle.tdl_verify.specs.Texts.{times_in};
 ghost use Rattle.tdl_node.specs.Machines.{IsOneHost, IsOffBus, IsBegun};
+ghost use Rattle.tdl_host.specs.CheckedCodes.{HasCheckedModules};
 ghost use Rattle.tdl_host.specs.Hosts.{worst_times};
 
 use crate::micro::run_micro;
@@ -17,7 +18,7 @@ use tdl_node::{Machine, Stop};
 use tdl_scen::Sense;
 use tdl_trace::Rows;
 
-/// A node that hosts one module: the module's tables and its state.
+/// A node that hosts one module: the module's tables, whose codes are lawful, and its state.
 #[derive(Debug, Drop)]
 pub struct HostMachine<'a> {
     hosted: &'a Hosted,
@@ -26,17 +27,21 @@ pub struct HostMachine<'a> {
 }
 
 impl<'a> Model for HostMachine<'a> {
+    ghost use Rattle.tdl_host.specs.CheckedCodes.{HasCheckedCodes};
     ghost use Rattle.tdl_host.specs.Hosts.{HostView};
 
     ghost Value = { HostView };
 
     ghost view = { λ m. record { host = m.hosted.now; declared = m.declared; now = m.state } };
+
+    ghost invariant = { λ m. HasCheckedCodes m.hosted.now };
 }
 
 impl<'a> HostMachine<'a> {
     /// The machine before instant 0: no mode, and a trigger at 0 for the entry block.
     pub fn begin(alloc: Global, bundle: &'a Bundle) -> Result<HostMachine<'a>, NoMemory>
-        requires { IsOneHost bundle.now }
+        requires one_host { IsOneHost bundle.now }
+        requires codes { HasCheckedModules bundle.now }
         ensures begun { IfOk result
             (λ machine. IsBegun bundle.now (⟦<HostMachine<'a> as Machine>⟧.declared machine)
             (⟦<HostMachine<'a> as Machine>⟧.parts machine)) }

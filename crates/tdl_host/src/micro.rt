@@ -3,6 +3,7 @@ ghost use Rattle.tdl_trace.specs.declared.why.Why.TheVariants as why;
 ghost use Rattle.tdl_verify.specs.Micros.{is_live, tasks_run};
 ghost use Rattle.tdl_node.specs.Machines.{IsTrapOf};
 ghost use Rattle.std.specs.Option.{option_to_list};
+ghost use Rattle.tdl_host.specs.CheckedCodes.{HasCheckedCodes};
 ghost use Rattle.tdl_host.specs.Hosts.{HasReleased};
 
 use crate::state::HostState;
@@ -34,6 +35,7 @@ fn live_window(hosted: &Hosted, state: &HostState, at: u32) -> Result<Option<Ima
 
 /// A microsecond of the module: the job of the live window works.
 pub fn run_micro(alloc: Global, hosted: &Hosted, state: &mut HostState, at: u32) -> Result<(), Stop>
+    requires { HasCheckedCodes hosted.now }
     ensures apart { OnOk result
         (nat_lt 1 (length (filter (is_live at state.old) hosted.now.windows)) ≡ false) }
     ensures ok { OnOk result

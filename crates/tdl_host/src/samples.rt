@@ -2,6 +2,7 @@
 ghost use Rattle.std.specs.Prelude.{◌≡◌, false, All, IfOk};
 ghost use Rattle.tdl_image.specs.declared.hosted.ImageWindow.{ImageWindow};
 ghost use Rattle.tdl_node.specs.Machines.{IsOneHost};
+ghost use Rattle.tdl_host.specs.CheckedCodes.{IsCheckedCode, HasCheckedCodes, HasCheckedModules};
 
 use std::alloc::Global;
 use tdl_base::{BinOp, Kind, Listed, ModuleId, NoMemory, Place, PortKey, TaskId, Text};
@@ -9,7 +10,13 @@ use tdl_ecode::{Block, EInstr};
 use tdl_image::{
     Bundle, CallEntry, Driver, Hosted, Image, ImageWindow, Initial, ReleaseEntry, TaskTable,
 };
-use tdl_stack::{Code, Instr};
+use tdl_stack::{Code, Instr, Shape, check_code};
+
+const OUTPUT: PortKey = PortKey {
+    module: ModuleId(0),
+    task: TaskId(0),
+    output: 0,
+};
 
 fn list<T: Copy>(alloc: Global, items: &[T]) -> Result<Listed<T>, NoMemory>
     ensures { IfOk result (λ list. list ≡ items.now) }
@@ -18,7 +25,19 @@ fn list<T: Copy>(alloc: Global, items: &[T]) -> Result<Listed<T>, NoMemory>
     Ok(Listed::from_vec(items))
 }
 
-fn code(alloc: Global, instrs: &[Instr]) -> Result<Code, NoMemory> {
+// A code that passes its check as one of the module; one that does not pass is no memory.
+fn code(alloc: Global, expression: bool, instrs: &[Instr]) -> Result<Code, NoMemory>
+    ensures { IfOk result IsCheckedCode }
+{
+    let shape = Shape {
+        cells: 3,
+        sensors: 1,
+        keys: &[OUTPUT],
+        expression,
+    };
+    if !check_code(instrs, &shape) {
+        return Err(NoMemory);
+    }
     Ok(Code {
         instrs: list(alloc, instrs)?,
     })
@@ -71,7 +90,9 @@ fn blocks(alloc: Global) -> Result<Listed<Block>, NoMemory> {
     Ok(blocks)
 }
 
-fn table(alloc: Global) -> Result<TaskTable, NoMemory> {
+fn table(alloc: Global) -> Result<TaskTable, NoMemory>
+    ensures { IfOk result (λ table. IsCheckedCode table.body) }
+{
     let sum = [
         Instr::Load(Place::Cell(1)),
         Instr::Load(Place::Cell(0)),
@@ -84,31 +105,25 @@ fn table(alloc: Global) -> Result<TaskTable, NoMemory> {
         inputs: Listed::only(alloc, Kind::Int)?,
         outputs: port(alloc, Kind::Int)?,
         locals: Listed::only(alloc, Kind::Int)?,
-        body: code(alloc, &sum)?,
+        body: code(alloc, false, &sum)?,
     })
 }
 
-fn sensor_code(alloc: Global) -> Result<Code, NoMemory> {
-    code(alloc, &[Instr::Load(Place::Sensor(0))])
-}
-
-fn output_code(alloc: Global) -> Result<Code, NoMemory> {
-    let key = PortKey {
-        module: ModuleId(0),
-        task: TaskId(0),
-        output: 0,
-    };
-    code(alloc, &[Instr::Load(Place::Port(key))])
+fn load(alloc: Global, place: Place) -> Result<Code, NoMemory>
+    ensures { IfOk result IsCheckedCode }
+{
+    code(alloc, true, &[Instr::Load(place)])
 }
 
 /// A module whose job has a window of so many microseconds from 1 on, an actuator that takes the
 /// output where the sensor is not 0, and a second mode.
 fn module(alloc: Global, length: u32) -> Result<Hosted, NoMemory>
-    ensures { IfOk result (λ host. All (λ (w : ImageWindow). w.bus ≡ false) host.windows) }
+    ensures off_bus { IfOk result (λ host. All (λ (w : ImageWindow). w.bus ≡ false) host.windows) }
+    ensures codes { IfOk result HasCheckedCodes }
 {
     let call = CallEntry {
         task: 0,
-        args: Listed::only(alloc, sensor_code(alloc)?)?,
+        args: Listed::only(alloc, load(alloc, Place::Sensor(0))?)?,
     };
     let release = ReleaseEntry {
         mode: 0,
@@ -117,7 +132,7 @@ fn module(alloc: Global, length: u32) -> Result<Hosted, NoMemory>
     };
     let driver = Driver {
         actuator: 0,
-        value: output_code(alloc)?,
+        value: load(alloc, Place::Port(OUTPUT))?,
     };
     let window = ImageWindow {
         bus: false,
@@ -135,7 +150,7 @@ fn module(alloc: Global, length: u32) -> Result<Hosted, NoMemory>
         modes: Listed::new(alloc),
         calls: Listed::only(alloc, call)?,
         releases: Listed::only(alloc, release)?,
-        guards: Listed::only(alloc, sensor_code(alloc)?)?,
+        guards: Listed::only(alloc, load(alloc, Place::Sensor(0))?)?,
         drivers: Listed::only(alloc, driver)?,
         windows: Listed::only(alloc, window)?,
         blocks: blocks(alloc)?,
@@ -145,7 +160,8 @@ fn module(alloc: Global, length: u32) -> Result<Hosted, NoMemory>
 
 /// The bundle of a node that hosts such a module alone, and does so many instructions an instant.
 pub fn alone(alloc: Global, declared: u32, length: u32) -> Result<Bundle, NoMemory>
-    ensures { IfOk result (λ bundle. IsOneHost bundle) }
+    ensures one_host { IfOk result IsOneHost }
+    ensures codes { IfOk result HasCheckedModules }
 {
     let image = Image {
         node: Text::from_str(alloc, "n1")?,

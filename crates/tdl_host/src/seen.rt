@@ -1,12 +1,13 @@
-ghost use Rattle.std.specs.Prelude.{◌≡◌, IfOk, slice_index_or, pos};
+ghost use Rattle.std.specs.Prelude.{◌≡◌, IfOk, All, slice_index_or, pos};
 ghost use Rattle.tdl_base.specs.declared.kinds.Kind.TheVariants.{Long};
 ghost use Rattle.tdl_verify.specs.Turns.{arguments};
+ghost use Rattle.tdl_host.specs.CheckedCodes.{IsCheckedCode};
 ghost use Rattle.tdl_host.specs.Hosts.{outer_at, value_at};
 
 use crate::state::HostState;
 use std::alloc::Global;
 use tdl_base::{Kind, NoMemory, PortKey, Us, narrow};
-use tdl_eval::{View, number};
+use tdl_exec::{View, run_expr};
 use tdl_image::Hosted;
 use tdl_scen::{Sense, sensed_value};
 use tdl_stack::Code;
@@ -47,13 +48,13 @@ impl View for Seen<'_> {
 }
 
 /// The number of a code of the module.
-pub fn value(alloc: Global, scene: Scene, state: &HostState, code: &Code) -> Result<i64, NoMemory>
-    ensures { IfOk result
-        (λ number. number
-        ≡ value_at scene.entry.hosted.now state.now scene.entry.senses.now scene.entry.at code.now) }
+pub fn value(scene: Scene, state: &HostState, code: &Code) -> i64
+    requires { IsCheckedCode code.now }
+    ensures { result
+        ≡ value_at scene.entry.hosted.now state.now scene.entry.senses.now scene.entry.at code.now }
 {
     let seen = Seen { scene, state };
-    number(alloc, code, &seen)
+    run_expr(code, &seen)
 }
 
 fn number_at(numbers: &[i64], at: usize) -> i64
@@ -76,6 +77,7 @@ pub fn arguments(
     kinds: &[Kind],
     codes: &[Code],
 ) -> Result<Vec<i64>, NoMemory>
+    requires { All IsCheckedCode codes.now }
     ensures { IfOk result
         (λ numbers. numbers.items
         ≡ arguments (value_at scene.entry.hosted.now state.now scene.entry.senses.now
@@ -83,7 +85,7 @@ pub fn arguments(
 {
     let mut numbers = Vec::new(alloc);
     for (i, code) in codes.iter().enumerate() {
-        let exact = value(alloc, scene, state, code)?;
+        let exact = value(scene, state, code);
         numbers.push(narrow(kind_of(kinds, i), exact))?;
     }
     Ok(numbers)

@@ -5,6 +5,7 @@ ghost use Rattle.tdl_verify.specs.States.{Slot, Part, host_first};
 ghost use Rattle.tdl_verify.specs.Micros.{is_live, tasks_run};
 ghost use Rattle.tdl_verify.specs.Turns.{is_mode, phase_of};
 ghost use Rattle.tdl_node.specs.Machines.{IsTrapOf};
+ghost use Rattle.tdl_host.specs.CheckedCodes.{HasCheckedCodes};
 ghost use Rattle.tdl_host.specs.Hosts.{HasReleased, due_block, trigger_taken, task_outputs, slot_of, is_idle, with_job, IsCommittedAt, IsLate};
 
 use crate::task::{TaskState, first_tasks, initials, work_all};
@@ -159,6 +160,7 @@ impl HostState {
         hosted: &Hosted,
         window: &ImageWindow,
     ) -> Result<(), NoMemory>
+        requires { HasCheckedCodes hosted.now }
         ensures { OnOk result
             (self.new ≡ record self.old
             { tasks = tasks_run (window.now ∷ []) hosted.now.tasks self.old.tasks }) }

@@ -6,6 +6,7 @@ ghost use Rattle.tdl_verify.specs.States.{HostNow, Part};
 ghost use Rattle.tdl_verify.specs.Turns.{Turned, picked, part_instr};
 ghost use Rattle.tdl_verify.specs.Runs.{is_plain};
 ghost use Rattle.tdl_node.specs.Machines.{IsTrap};
+ghost use Rattle.tdl_host.specs.CheckedCodes.{HasCheckedCodes};
 ghost use Rattle.tdl_host.specs.Hosts.{HasReleased, host_turn, spot_now, picked_by, after_step};
 
 use crate::act::{Next, act};
@@ -80,7 +81,8 @@ pub fn step(
     standing: Standing,
     rows: &mut Rows,
 ) -> Result<Stepped, Stop>
-    requires { HasReleased (2 ^ 64 - 2) state.old }
+    requires codes { HasCheckedCodes scene.hosted.now }
+    requires released { HasReleased (2 ^ 64 - 2) state.old }
     ensures ok { IfOk result
         (λ next. (n : ℕ) →
         host_turn (suc n) scene.entry.hosted.now scene.entry.senses.now scene.entry.at

@@ -1,8 +1,10 @@
-ghost use Rattle.std.specs.Prelude.{◌≡◌, ◌<◌, ◌+◌, ◌^◌, true, false, IfOk, OnOk, IfErr, map, ◌∷◌, []};
+ghost use Rattle.std.specs.Prelude.{◌≡◌, All, ◌<◌, ◌+◌, ◌^◌, true, false, IfOk, OnOk, IfErr, map, ◌∷◌, []};
 ghost use Rattle.tdl_trace.specs.declared.why.Why.TheVariants as why;
 ghost use Rattle.tdl_verify.specs.States.{Slot, task_first, initial_values};
 ghost use Rattle.tdl_verify.specs.Micros.{slot_run, tasks_run};
 ghost use Rattle.tdl_node.specs.Machines.{IsTrapOf};
+ghost use Rattle.tdl_image.specs.declared.hosted.TaskTable.{TaskTable};
+ghost use Rattle.tdl_host.specs.CheckedCodes.{IsCheckedCode};
 ghost use Rattle.tdl_host.specs.Hosts.{is_idle, with_job, IsCommitted, IsLate};
 
 use crate::job::{JobSlot, slot_after};
@@ -83,6 +85,7 @@ impl TaskState {
         table: &TaskTable,
         window: &ImageWindow,
     ) -> Result<(), NoMemory>
+        requires { IsCheckedCode table.now.body }
         ensures { OnOk result
             (self.new ≡ record self.old
             { slot = slot_run (window.now ∷ []) table.now self.old.slot }) }
@@ -137,6 +140,7 @@ pub fn work_all(
     tasks: &mut [TaskState],
     window: &ImageWindow,
 ) -> Result<(), NoMemory>
+    requires { All (λ (t : TaskTable). IsCheckedCode t.body) tables.now }
     ensures { OnOk result (tasks.new ≡ tasks_run (window.now ∷ []) tables.now tasks.old) }
 {
     for i in 0..tasks.len() {

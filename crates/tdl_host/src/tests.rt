@@ -1,6 +1,7 @@
 ghost use Rattle.std.specs.Prelude.{◌≡◌, ◌≤◌, [], IfOk};
 ghost use Rattle.tdl_base.specs.declared.limits.TheConstants.{HORIZON_US};
 ghost use Rattle.tdl_node.specs.Machines.{IsOneHost};
+ghost use Rattle.tdl_host.specs.CheckedCodes.{HasCheckedModules};
 
 use crate::HostMachine;
 use crate::samples::alone;
@@ -16,7 +17,8 @@ use tdl_scen::Sense;
 use tdl_trace::{Row, Rows, Why};
 
 fn counting_bundle(alloc: Global) -> Result<Bundle, NoMemory>
-    ensures { IfOk result (λ bundle. IsOneHost bundle) }
+    ensures one_host { IfOk result IsOneHost }
+    ensures codes { IfOk result HasCheckedModules }
 {
     let form = counting_form(alloc)?;
     plain_bundle(alloc, &form)
@@ -53,7 +55,8 @@ fn go_to<M: Machine>(
 /// Runs a new machine up to an instant, and leaves the rows of that instant.
 fn run_to(alloc: Global, bundle: &Bundle, value: i64, end: u64, rows: &mut Rows) -> Result<(), Stop>
     requires end { end ≤ HORIZON_US }
-    requires bundle { IsOneHost bundle.now }
+    requires one_host { IsOneHost bundle.now }
+    requires codes { HasCheckedModules bundle.now }
     requires empty { rows.old ≡ [] }
 {
     let mut machine = HostMachine::begin(alloc, bundle)?;

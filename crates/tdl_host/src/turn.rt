@@ -3,6 +3,7 @@ ghost use Rattle.tdl_base.specs.declared.limits.TheConstants.{HORIZON_US};
 ghost use Rattle.tdl_verify.specs.States.{Part};
 ghost use Rattle.tdl_verify.specs.Turns.{Turned, Spot};
 ghost use Rattle.tdl_node.specs.Machines.{IsTrap};
+ghost use Rattle.tdl_host.specs.CheckedCodes.{HasCheckedCodes};
 ghost use Rattle.tdl_host.specs.Hosts.{HasReleased, host_turn};
 
 use crate::seen::Scene;
@@ -22,6 +23,7 @@ pub fn run_turn(
 ) -> Result<(), Stop>
     requires empty { rows.old ≡ [] }
     requires instant { scene.at ≤ HORIZON_US }
+    requires codes { HasCheckedCodes scene.hosted.now }
     requires released { HasReleased (scene.at * 2 ^ 32) state.old }
     ensures ok { OnOk result
         (host_turn declared scene.entry.hosted.now scene.entry.senses.now scene.entry.at

@@ -1,2 +1,3 @@
 pub mod Templates
 pub mod Looks
+pub mod Readable

@@ -5,8 +5,9 @@ use Rattle.tdl_body.specs.declared.tree.Expr.{Expr}
 use Rattle.tdl_body.specs.declared.tree.Expr.TheOpen.{Expr-F}
 use Rattle.tdl_body.specs.declared.tree.Expr.TheFolds.{fold-Expr}
 use Rattle.tdl_body.specs.declared.tree.Body.{Body}
+use Rattle.tdl_body.specs.declared.tree.Stmt.{Stmt}
 use Rattle.tdl_body.specs.declared.tree.Stmt.TheOpen.{Stmt-F, Body-F}
-use Rattle.tdl_body.specs.declared.tree.Stmt.TheFolds.{fold-Body}
+use Rattle.tdl_body.specs.declared.tree.Stmt.TheFolds.{fold-Body, fold-Stmt}
 use Rattle.tdl_stack.specs.declared.instr.Instr.{Instr}
 use Rattle.tdl_stack.specs.declared.instr.Instr.TheVariants as instr
 
@@ -39,6 +40,10 @@ stmt_template (Stmt-F.Repeat count block) = instr.Rep count (length block) ∷ b
 -- the code of a block, given that of its statements
 abbrev pub block_template : Body-F Instructions Instructions → Instructions
 block_template block = joined block.stmts
+
+-- the code of a statement
+unfoldable pub stmt_code : Stmt → Instructions
+stmt_code = fold-Stmt Instructions Instructions stmt_template block_template
 
 -- the code of a body
 unfoldable pub body_code : Body → Instructions

@@ -3,3 +3,4 @@ pub mod PlainAccepted
 pub mod Compiled
 pub mod PlainRealises
 pub mod PlainText
+pub mod PlainForms

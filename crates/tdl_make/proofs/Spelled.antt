@@ -1,5 +1,5 @@
 -- The bundle of a plain program can be spelled.
-use Rattle.std.proofs.Common.{◌≡◌, ◌≤◌, ℕ, pos, true, nat_le, List, [], ◌∷◌, length, All, IsTrue, not, refl, arith}
+use Rattle.std.proofs.Common.{◌≡◌, ◌≤◌, ℕ, pos, true, nat_le, List, [], ◌∷◌, length, All, IsTrue, not, refl, sym, subst, arith}
 use Rattle.std.proofs.lemmas.Bool.Decides.{nat_tests}
 use Rattle.std.proofs.lemmas.List.Elements.{All-nil, All-cons, All-from_recursion}
 use Rattle.std.proofs.lemmas.Int.{ints}
@@ -15,8 +15,10 @@ use Rattle.tdl_image.specs.Identifiers.{IsIdentifier}
 use Rattle.tdl_image.specs.Spellable as sp
 use Rattle.tdl_plain.specs.declared.form.Form.{Form}
 use Rattle.tdl_plain.specs.PlainSource.{IsPlainForm, is_name, is_reserved}
-use Rattle.tdl_plain.specs.Tokens.{is_identifier}
-use Rattle.tdl_make.specs.PlainBundle.{add_code, plain_bundle, plain_hosted, plain_table, plain_blocks}
+use Rattle.tdl_plain.specs.PlainSource.{is_identifier}
+use Rattle.tdl_image.specs.declared.bundle.Bundle.{Bundle}
+use Rattle.tdl_image.specs.Spellable.{IsSpellable}
+use Rattle.tdl_make.specs.PlainBundle.{add_code, plain_bundle, plain_hosted, plain_table, plain_blocks, IsPlainBundle}
 
 -- a number that tests as at most b
 at_most : (a b : ℕ) → nat_le a b ≡ true → a ≤ b
@@ -152,3 +154,7 @@ module _ (f : Form) (lawful : IsPlainForm f) where
   -- the bundle can be spelled
   pub spellable : sp.IsSpellable (plain_bundle f)
   spellable = record { at_least = omega arith; at_most = omega arith; images = image }
+
+-- so can the bundle of a plain program
+pub plain_spellable : (b : Bundle) → IsPlainBundle b → IsSpellable b
+plain_spellable b plain = subst IsSpellable (sym plain.is) (spellable plain.form plain.lawful)

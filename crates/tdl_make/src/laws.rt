@@ -5,7 +5,8 @@ ghost use Rattle.tdl_deploy.specs.Named.{one_node};
 ghost use Rattle.tdl_deploy.specs.Texts.{logical_text};
 ghost use Rattle.tdl_gen.specs.Realises.{bundle_of, Realises};
 ghost use Rattle.tdl_image.specs.Spellable.{IsSpellable};
-ghost use Rattle.tdl_make.specs.PlainBundle.{plain_bundle, plain_schedule};
+ghost use Rattle.tdl_image.specs.declared.bundle.Bundle.{Bundle};
+ghost use Rattle.tdl_make.specs.PlainBundle.{plain_bundle, plain_schedule, IsPlainBundle};
 ghost use Rattle.tdl_plain.specs.PlainProgram.{program_of};
 ghost use Rattle.tdl_plain.specs.PlainSource.{IsPlainForm};
 ghost use Rattle.tdl_plain.specs.declared.form.Form.{Form};
@@ -39,5 +40,6 @@ pub fn plain_runs()
 
 /// The bundle of a plain program can be spelled.
 pub fn plain_is_spellable()
-    ensures { (f : Form) → IsPlainForm f → IsSpellable (plain_bundle f) }
+    ensures form { (f : Form) → IsPlainForm f → IsSpellable (plain_bundle f) }
+    ensures bundle { (b : Bundle) → IsPlainBundle b → IsSpellable b }
 {}

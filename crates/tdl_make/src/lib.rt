@@ -5,7 +5,9 @@
 pub mod laws;
 mod make;
 mod parts;
+mod test_plain;
 #[cfg(test)]
 mod tests;
 
 pub use make::plain_bundle;
+pub use test_plain::is_plain_bundle;

@@ -1,4 +1,4 @@
-use crate::plain_bundle;
+use crate::{is_plain_bundle, plain_bundle};
 use std::test::Fail;
 use tdl_image::write_bundle;
 use tdl_plain::counting_form;
@@ -9,5 +9,6 @@ fn makes_the_bundle_of_a_form(rt: HostRuntime) -> Result<(), Fail> {
     let bundle = plain_bundle(rt.alloc(), &form)?;
     let bytes = write_bundle(rt.alloc(), &bundle)?;
     assert_eq!(rt; bytes.len(), 217);
+    assert!(rt; is_plain_bundle(rt.alloc(), &bundle)?);
     Ok(())
 }

@@ -3,10 +3,12 @@
 
 mod fault;
 mod machine;
+mod names;
 #[cfg(test)]
 mod tests;
 mod walk;
 
 pub use fault::NodeFault;
 pub use machine::{Machine, Stop};
+pub use names::bundle_names;
 pub use walk::run;

@@ -1,16 +1,42 @@
 -- A form passes its tests exactly where it is that of a plain program.
-use Rattle.std.proofs.Common.{◌≡◌, true, ◌&&◌, not, refl, bytes_eq}
+use Rattle.std.proofs.Common.{◌≡◌, ◌≤◌, ◌*◌, true, ◌&&◌, not, nat_le, refl, bytes_eq, leb-true, le-leb}
 use Rattle.std.proofs.lemmas.Bool.{and_parts, and_from}
 use Rattle.tdl_plain.specs.declared.form.Form.{Form}
 use Rattle.tdl_plain.specs.PlainSource.{is_name, IsPlainForm}
-use Rattle.tdl_plain.specs.Checking.{has_names, is_apart, numbers_in, is_lawful}
-use Rattle.tdl_plain.specs.Reading.{in_range}
-use Rattle.tdl_plain.proofs.Plain.{differ, told, five_bounds, range_from}
+use Rattle.tdl_plain.specs.Checking.{has_names, is_apart, is_in_range, is_lawful}
+use Rattle.tdl_plain.proofs.Plain.{differ, told}
+
+-- what `is_in_range` tests
+record FiveBounds (f : Form) : Type 0 where
+  pub period_from : 1 ≤ f.period
+  pub period_to : f.period ≤ 10000
+  pub worst_from : 1 ≤ f.worst
+  pub worst_to : f.worst ≤ 1000 * f.period
+  pub initial_to : f.initial ≤ 2147483647
+
+-- a true test of the ranges
+five_bounds : (f : Form) → is_in_range f ≡ true → FiveBounds f
+five_bounds f h =
+    let a = nat_le 1 f.period in
+    let b = nat_le f.period 10000 in
+    let c = nat_le 1 f.worst in
+    let d = nat_le f.worst (1000 * f.period) in
+    let four = and_parts (a && b && c && d) (nat_le f.initial 2147483647) h in
+    let three = and_parts (a && b && c) d four.0 in
+    let two = and_parts (a && b) c three.0 in
+    let one = and_parts a b two.0 in
+    record {
+      period_from = leb-true 1 f.period one.0;
+      period_to = leb-true f.period 10000 one.1;
+      worst_from = leb-true 1 f.worst two.1;
+      worst_to = leb-true f.worst (1000 * f.period) three.1;
+      initial_to = leb-true f.initial 2147483647 four.1;
+    }
 
 -- a form that passes is lawful
 pub lawful_from : (f : Form) → is_lawful f ≡ true → IsPlainForm f
 lawful_from f h =
-    let both = and_parts (has_names f && is_apart f) (in_range (numbers_in f)) h in
+    let both = and_parts (has_names f && is_apart f) (is_in_range f) h in
     let named_apart = and_parts (has_names f) (is_apart f) both.0 in
     let named = named_apart.0 in
     let apart = named_apart.1 in
@@ -30,7 +56,7 @@ lawful_from f h =
     let third = and_parts (x && y && z) (not (bytes_eq f.input f.output)) apart in
     let second = and_parts (x && y) z third.0 in
     let first = and_parts x y second.0 in
-    let bounds = five_bounds (numbers_in f) both.1 in
+    let bounds = five_bounds f both.1 in
     record {
       module_name = one.0;
       sensor_name = one.1;
@@ -60,17 +86,18 @@ lawful_apart f h =
     ) refl
 
 -- and of the numbers
-lawful_range : (f : Form) → IsPlainForm f → in_range (numbers_in f) ≡ true
-lawful_range f h = range_from (numbers_in f) (record {
-  period_from = h.period_from;
-  period_to = h.period_to;
-  worst_from = h.worst_from;
-  worst_to = h.worst_to;
-  initial_to = h.initial_to;
-})
+lawful_range : (f : Form) → IsPlainForm f → is_in_range f ≡ true
+lawful_range f h =
+    rw (
+      le-leb 1 f.period h.period_from,
+      le-leb f.period 10000 h.period_to,
+      le-leb 1 f.worst h.worst_from,
+      le-leb f.worst (1000 * f.period) h.worst_to,
+      le-leb f.initial 2147483647 h.initial_to,
+    ) refl
 
 -- a lawful form passes
 pub lawful_passes : (f : Form) → IsPlainForm f → is_lawful f ≡ true
 lawful_passes f h =
     rw (h.module_name, h.sensor_name, h.task_name, h.input_name, h.output_name, h.mode_name)
-    (and_from (is_apart f) (in_range (numbers_in f)) (lawful_apart f h) (lawful_range f h))
+    (and_from (is_apart f) (is_in_range f) (lawful_apart f h) (lawful_range f h))

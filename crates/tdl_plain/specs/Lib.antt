@@ -1,6 +1,6 @@
 pub mod PlainSource
-pub mod Reading
-pub mod Tokens
+pub mod PlainTree
+pub mod FormInTree
 pub mod PlainProgram
 pub mod Checking
 pub mod Runnable

@@ -2,7 +2,6 @@ ghost use Rattle.std.specs.Prelude.{◌≡◌, ◌↔◌, IsTrue};
 ghost use Rattle.tdl_plain.specs.Checking as checking;
 ghost use Rattle.tdl_plain.specs.PlainSource.{IsPlainForm};
 
-use crate::lawful::{Numbers, in_range};
 use crate::words::is_name;
 use std::alloc::{AllocError, AllocFailed};
 use tdl_base::Text;
@@ -47,20 +46,20 @@ impl Form {
             && self.input.as_str() != self.output.as_str()
     }
 
-    fn numbers(&self) -> Numbers
-        ensures { result ≡ checking.numbers_in self.now }
+    fn is_in_range(&self) -> bool
+        ensures { result ≡ checking.is_in_range self.now }
     {
-        Numbers {
-            worst: self.worst,
-            initial: self.initial,
-            period: self.period,
-        }
+        1 <= self.period
+            && self.period <= 10_000
+            && 1 <= self.worst
+            && self.worst <= 1_000 * self.period
+            && self.initial <= 2_147_483_647
     }
 
     fn is_lawful(&self) -> bool
         ensures { result ≡ checking.is_lawful self.now }
     {
-        self.has_names() && self.is_apart() && in_range(&self.numbers())
+        self.has_names() && self.is_apart() && self.is_in_range()
     }
 
     /// Whether the names are names, those that must differ do, and the numbers are in range.

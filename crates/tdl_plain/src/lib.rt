@@ -3,17 +3,13 @@
 #![tactic(auto)]
 
 mod form;
-mod lawful;
+mod form_in;
 mod read;
 mod sample;
-mod scan;
-mod sentence;
+mod tree;
 mod words;
 
 pub use form::{Form, SourceError};
-pub use read::read_plain_source;
+pub use read::read_plain;
 pub use sample::{COUNTING_SOURCE, counting_form};
 pub use words::is_name;
-
-#[cfg(test)]
-mod tests;

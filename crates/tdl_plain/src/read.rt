@@ -1,25 +1,27 @@
 ghost use Rattle.std.specs.Prelude.{◌≡◌, IfOk, IsErrOf};
-ghost use Rattle.tdl_plain.specs.PlainSource.{IsPlainSource};
+ghost use Rattle.tdl_plain.specs.PlainTree.{IsPlainTree};
 ghost use Rattle.tdl_plain.specs.declared.form.Form.{Form};
 
-use crate::lawful::form_of;
-use crate::scan::tokens;
-use crate::sentence::parts_of;
+use crate::form_in::form_in;
+use crate::tree::says_form;
 use crate::{Form, SourceError};
 use std::alloc::Global;
+use tdl_tree::Tree;
 
-/// The form whose plain source the bytes are: there is one at most. `NotPlain` comes exactly where
-/// there is none.
-pub fn read_plain_source(alloc: Global, bytes: &[u8]) -> Result<Form, SourceError>
-    ensures plain { IfOk result (λ form. IsPlainSource form bytes.now) }
-    ensures only { (form : Form) → IsPlainSource form bytes.now →
-        IfOk result (λ found. found ≡ form) }
+/// The form that the tree of a source says: there is one at most. `NotPlain` comes exactly where it
+/// says none.
+pub fn read_plain(alloc: Global, tree: &Tree) -> Result<Form, SourceError>
+    ensures plain { IfOk result (λ form. IsPlainTree form tree.now) }
+    ensures only { (form : Form) → IsPlainTree form tree.now → IfOk result (λ found. found ≡ form) }
     ensures refused { IsErrOf result SourceError.NotPlain → (form : Form) →
-        ¬ IsPlainSource form bytes.now }
+        ¬ IsPlainTree form tree.now }
 {
-    let tokens = tokens(alloc, bytes)?;
-    let Some(parts) = parts_of(tokens.as_slice()) else {
+    let form = form_in(alloc, tree)?;
+    if !form.is_plain() {
         return Err(SourceError::NotPlain);
-    };
-    form_of(alloc, &parts)
+    }
+    if !says_form(&form, tree) {
+        return Err(SourceError::NotPlain);
+    }
+    Ok(form)
 }

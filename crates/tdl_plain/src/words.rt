@@ -1,10 +1,8 @@
-ghost use Rattle.std.specs.Prelude.{◌≡◌, ◌-◌, min, Some, None, if◌then◌else◌};
-ghost use Rattle.std.specs.List.{list_all};
+ghost use Rattle.std.specs.Prelude.{◌≡◌, bytes_eq};
+ghost use Rattle.std.specs.List.{list_all, list_any};
 ghost use Rattle.tdl_base.specs.Letters as letters;
-ghost use Rattle.tdl_plain.specs.Tokens as tokens;
 ghost use Rattle.tdl_plain.specs.PlainSource as spec;
 
-use crate::scan::{is_among, is_digit, is_letter, is_name_byte};
 use tdl_base::limits::IDENTIFIER_BYTES;
 
 /// The words that are no names.
@@ -14,16 +12,29 @@ const RESERVED_WORDS: [&str; 30] = [
     "switch", "to", "true", "false", "uses", "boolean", "byte", "short", "int", "long",
 ];
 
+fn is_letter(c: u8) -> bool
+    ensures { result ≡ letters.is_letter c }
+{
+    matches!(c, b'A'..=b'Z' | b'a'..=b'z')
+}
+
+fn is_name_byte(c: u8) -> bool
+    ensures { result ≡ letters.is_name_byte c }
+{
+    is_letter(c) || matches!(c, b'0'..=b'9') || c == b'_'
+}
+
+// Whether the token is one of the words.
+fn is_among(token: &[u8], words: &[&str]) -> bool
+    ensures { result ≡ list_any (λ word. bytes_eq word.now token.now) words.now }
+{
+    words.iter().any(|word| word.as_bytes() == token)
+}
+
 fn are_name_bytes(bytes: &[u8]) -> bool
     ensures { result ≡ list_all letters.is_name_byte bytes.now }
 {
     bytes.iter().all(|c| is_name_byte(*c))
-}
-
-fn are_digits(bytes: &[u8]) -> bool
-    ensures { result ≡ list_all letters.is_digit bytes.now }
-{
-    bytes.iter().all(|c| is_digit(*c))
 }
 
 fn is_word(token: &[u8]) -> bool
@@ -47,42 +58,4 @@ pub fn is_name(token: &[u8]) -> bool
     ensures { result ≡ spec.is_name token.now }
 {
     is_word(token) && token.len() <= IDENTIFIER_BYTES && !is_reserved(token)
-}
-
-fn is_number(token: &[u8]) -> bool
-    ensures { result ≡ tokens.is_number token.now }
-{
-    match token {
-        [first, others @ ..] => is_digit(*first) && are_digits(others),
-        [] => false,
-    }
-}
-
-fn digit_value(c: u8) -> u64
-    ensures { result ≡ c - 48 }
-{
-    u64::from(c.saturating_sub(b'0'))
-}
-
-/// The value of the digits, or the greatest `u64` where it is above that.
-fn capped_value(digits: &[u8]) -> u64
-    ensures { result ≡ min (spec.number_value digits.now) u64.MAX }
-{
-    let mut value: u64 = 0;
-    for c in digits {
-        value = value.saturating_mul(10).saturating_add(digit_value(*c));
-    }
-    value
-}
-
-/// The number's value, capped.
-pub fn number(token: &[u8]) -> Option<u64>
-    ensures { result
-        ≡ (if tokens.is_number token.now then Some (min (spec.number_value token.now) u64.MAX)
-        else None) }
-{
-    if !is_number(token) {
-        return None;
-    }
-    Some(capped_value(token))
 }

@@ -1,3 +1,13 @@
 pub mod Kept
 pub mod Skips
 pub mod PrefixFree
+pub mod Places
+pub mod Spans
+pub mod Soundness
+pub mod CountStands
+pub mod CountSteps
+pub mod Counted
+pub mod Costs
+pub mod Lawfulness
+pub mod Extending
+pub mod CountsThrough

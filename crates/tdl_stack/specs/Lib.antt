@@ -1,3 +1,7 @@
 pub mod Running
 pub mod Spelling
+pub mod Texts
+pub mod Lawful
+pub mod Judging
+pub mod Counting
 pub mod Examples

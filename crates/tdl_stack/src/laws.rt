@@ -1,7 +1,9 @@
 //! Laws of what a code does. Each function does nothing: its contract is the law.
-ghost use Rattle.std.specs.Prelude.{◌≡◌, ℕ, ◌-◌, ◌^◌, List, [], ◌∷◌, drop, length, pos, neg_ℤ};
+ghost use Rattle.std.specs.Prelude.{◌≡◌, ℕ, suc, ◌+◌, ◌-◌, ◌*◌, ◌^◌, List, [], ◌∷◌, drop, length, pos, neg_ℤ};
 ghost use Rattle.tdl_base.specs.Bytes.{IsPrefixFree};
 ghost use Rattle.tdl_stack.specs.declared.instr.Instr.{Instr};
+ghost use Rattle.tdl_stack.specs.declared.instr.Instr.TheVariants.{Rep};
+ghost use Rattle.tdl_stack.specs.Lawful.{body_length, cost_before};
 ghost use Rattle.tdl_stack.specs.Running.{Outer, StackState, exec, cells_after, outputs_after, code_value};
 ghost use Rattle.tdl_stack.specs.Spelling.{code_bytes, instr_bytes, IsInRange};
 ghost use Rattle.tdl_stack.specs.Examples.{two_cells, sensing, choice_code, sum_code, repeat_code, minus_code};
@@ -41,4 +43,14 @@ pub fn examples()
     ensures number { code_value (sensing (pos 7)) minus_code ≡ neg_ℤ (pos 7) }
     ensures bytes { code_bytes sum_code ≡
         0 ∷ 0 ∷ 0 ∷ 4 ∷ 3 ∷ 0 ∷ 1 ∷ 3 ∷ 0 ∷ 0 ∷ 6 ∷ 0 ∷ 4 ∷ 0 ∷ 1 ∷ [] }
+{}
+
+/// What a code costs: an instruction without a body costs 1, and a `rep` costs 1 and as often as it
+/// says what its body costs.
+pub fn costs()
+    ensures plain { (i : Instr) (code : List Instr) → body_length i ≡ 0 →
+        cost_before (i ∷ code) (suc (length code)) ≡ 1 + cost_before code (length code) }
+    ensures repetition { (times : ℕ) (body : List Instr) →
+        cost_before (Rep times (length body) ∷ body) (suc (length body))
+        ≡ 1 + times * cost_before body (length body) }
 {}

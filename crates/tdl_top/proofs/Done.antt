@@ -16,11 +16,12 @@ use Rattle.tdl_gen.specs.Realises.{Realises}
 use Rattle.tdl_make.specs.PlainBundle.{plain_bundle, IsPlainBundle}
 use Rattle.tdl_make.proofs.PlainText.{plain_alive, plain_text}
 use Rattle.tdl_make.proofs.PlainRealises.{made, realises}
-use Rattle.tdl_top.specs.declared.words.Call.TheVariants.{Compile, Run, Exec}
-use Rattle.tdl_top.specs.Words.{Words}
-use Rattle.tdl_top.specs.Calls.{FilesCall, SinkCall, IsSilent, IsUnchanged}
+use Rattle.tdl_words.specs.declared.words.Call.TheVariants.{Compile, Run, Exec}
+use Rattle.tdl_words.specs.Words.{Words}
+use Rattle.tdl_report.specs.Calls.{FilesCall, SinkCall, IsSilent, IsUnchanged}
 use Rattle.tdl_top.specs.Taken.{placement_of, schedule_of, bundle_for}
-use Rattle.tdl_top.specs.Answers.{IsDone, IsSourceOf, IsScenarioOf}
+use Rattle.tdl_top.specs.Inputs.{IsSourceOf, IsScenarioOf}
+use Rattle.tdl_top.specs.Answers.{IsDone}
 use Rattle.tdl_top.specs.Headline.{Compiles, Runs, Executes}
 use Rattle.tdl_top.proofs.InputsSay.{runnable}
 
@@ -28,34 +29,34 @@ use Rattle.tdl_top.proofs.InputsSay.{runnable}
 
 module _ (bundle : Bundle) (bytes : List ℕ) (source : IsSourceOf bundle bytes) where
   abbrev form : Form
-  form = source.says.form
+  form = source.says.says.form
 
   abbrev lawful : IsPlainForm form
-  lawful = source.says.plain.lawful
+  lawful = source.says.says.plain.lawful
 
   -- it is the plain bundle
   is_plain : bundle ≡ plain_bundle form
-  is_plain = source.made ∙ ap bundle_for source.says.is ∙ made form (runnable form lawful)
+  is_plain = source.made ∙ ap bundle_for source.says.says.is ∙ made form (runnable form lawful)
 
   -- it realises the program
   bundle_realises : Realises bundle source.program (placement_of source.program)
       (schedule_of source.program (placement_of source.program))
   bundle_realises =
-      subst (λ (p : Program). Realises bundle p (placement_of p) (schedule_of p (placement_of p))) (sym source.says.is)
+      subst (λ (p : Program). Realises bundle p (placement_of p) (schedule_of p (placement_of p))) (sym source.says.says.is)
       (subst (λ (b : Bundle). Realises b (program_of form) (placement_of (program_of form))
       (schedule_of (program_of form) (placement_of (program_of form)))) (sym is_plain)
       (realises form (runnable form lawful)))
 
   -- its names are those of the program
   names_are : bundle_names bundle ≡ names_of source.program (placement_of source.program)
-  names_are = ap bundle_names is_plain ∙ sym (ap (λ (p : Program). names_of p (placement_of p)) source.says.is)
+  names_are = ap bundle_names is_plain ∙ sym (ap (λ (p : Program). names_of p (placement_of p)) source.says.says.is)
 
   -- the text of its run is that of the program's logical rows
   text_is : (s : Scenario) → s.times ≡ [] →
       bundle_text bundle s ≡ logical_text source.program (placement_of source.program) (course_of s.senses) s.horizon.0
   text_is s none =
       ap (λ (b : Bundle). bundle_text b s) is_plain ∙ plain_text form (runnable form lawful) s none
-      ∙ sym (ap (λ (p : Program). logical_text p (placement_of p) (course_of s.senses) s.horizon.0) source.says.is)
+      ∙ sym (ap (λ (p : Program). logical_text p (placement_of p) (course_of s.senses) s.horizon.0) source.says.says.is)
 
 -- ---- the calls
 

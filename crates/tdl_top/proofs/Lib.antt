@@ -1,5 +1,4 @@
-pub mod Reading
-pub mod TakenWords
+pub mod OneSource
 pub mod Loading
 pub mod InputsSay
 pub mod Saying

@@ -2,7 +2,7 @@
 use Rattle.std.proofs.Common.{ℕ, List, arith, ◌∙◌, Option, Some, None}
 use Rattle.tdl_io.specs.Outside.{Counts, HasNamedCause, NoCountFalls, NoCountChanges}
 use Rattle.tdl_io.specs.Told.{FilesTold}
-use Rattle.tdl_top.specs.Calls.{OnlyLoads}
+use Rattle.tdl_report.specs.Calls.{OnlyLoads}
 
 -- a count that rose in a call rose from before an earlier one
 pub named_earlier : (a b c : Option Counts) (name : List ℕ) → NoCountFalls a b → HasNamedCause b c name →

@@ -2,12 +2,12 @@
 use Rattle.std.proofs.Common.{◌≡◌, ℕ, List, subst, sym, inl, inr, refl, ◌∙◌, Option, Some, None}
 use Rattle.std.specs.Prelude.{◌≢◌, ◌⊎◌, ◌↔◌}
 use Rattle.tdl_io.specs.Told.{SinkTold}
-use Rattle.tdl_top.specs.declared.status.Status.{Status}
-use Rattle.tdl_top.specs.declared.status.Status.TheVariants.{Ok, Usage, WriteFailed, SaveFailed, NoMemory}
-use Rattle.tdl_top.specs.declared.words.Call.{Call}
-use Rattle.tdl_top.specs.Words.{Words}
-use Rattle.tdl_top.specs.Calls.{FilesCall, SinkCall, IsUnchanged, IsSilent}
-use Rattle.tdl_top.specs.Reports.{IsSaid, IsQuiet, IsToldOfSave}
+use Rattle.tdl_report.specs.declared.status.Status.{Status}
+use Rattle.tdl_report.specs.declared.status.Status.TheVariants.{Ok, Usage, WriteFailed, SaveFailed, NoMemory}
+use Rattle.tdl_words.specs.declared.words.Call.{Call}
+use Rattle.tdl_words.specs.Words.{Words}
+use Rattle.tdl_report.specs.Calls.{FilesCall, SinkCall, IsUnchanged, IsSilent}
+use Rattle.tdl_report.specs.Reports.{IsSaid, IsQuiet, IsToldOfSave}
 use Rattle.tdl_top.specs.Answers.{AnswerSaysOf, AnswerSaysBy}
 
 -- ---- the line of an answer

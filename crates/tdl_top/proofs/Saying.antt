@@ -5,13 +5,14 @@ use Rattle.tdl_io.specs.Told.{FilesTold}
 use Rattle.tdl_scen.specs.declared.entries.Scenario.{Scenario}
 use Rattle.tdl_image.specs.declared.bundle.Bundle.{Bundle}
 use Rattle.tdl_verify.specs.Texts.{bundle_names, bundle_text}
-use Rattle.tdl_top.specs.declared.status.Status.{Status}
-use Rattle.tdl_top.specs.declared.status.Status.TheVariants.{Ok, WriteFailed, SaveFailed, NoMemory}
-use Rattle.tdl_top.specs.declared.words.Call.{Call}
-use Rattle.tdl_top.specs.Words.{Words, word_at, out_word, scenario_word}
-use Rattle.tdl_top.specs.Calls.{FilesCall, SinkCall, OnlyLoads, IsUnchanged, IsSilent}
+use Rattle.tdl_report.specs.declared.status.Status.{Status}
+use Rattle.tdl_report.specs.declared.status.Status.TheVariants.{Ok, WriteFailed, SaveFailed, NoMemory}
+use Rattle.tdl_words.specs.declared.words.Call.{Call}
+use Rattle.tdl_words.specs.Words.{Words, word_at, out_word, scenario_word}
+use Rattle.tdl_report.specs.Calls.{FilesCall, SinkCall, OnlyLoads, IsUnchanged, IsSilent}
 use Rattle.tdl_top.specs.Loads.{SaveSays, PrintSays}
-use Rattle.tdl_top.specs.Answers.{HasBundle, HasScenario, HasAsked, InputSays, Leaves, Prints, PrintsSome, IsPartDone, AnswerSaysOf}
+use Rattle.tdl_top.specs.Inputs.{HasBundle, HasScenario, InputSays}
+use Rattle.tdl_top.specs.Answers.{HasAsked, Leaves, Prints, PrintsSome, IsPartDone, AnswerSaysOf}
 use Rattle.tdl_top.proofs.Loading.{named_same}
 
 -- inputs that are refused, before anything is saved or printed

@@ -2,11 +2,12 @@
 use Rattle.std.specs.Prelude.{◌≡◌, Option, Some, None, ⊤}
 use Rattle.tdl_io.specs.Outside.{Held}
 use Rattle.tdl_image.specs.declared.bundle.Bundle.{Bundle}
-use Rattle.tdl_top.specs.declared.status.Status.{Status}
-use Rattle.tdl_top.specs.declared.status.Status.TheVariants.{Ok, Usage, LoadFailed, TooLong, WriteFailed, SaveFailed, NoMemory, BadForm}
-use Rattle.tdl_top.specs.declared.words.Call.{Call}
-use Rattle.tdl_top.specs.Words.{Words, call_in, scenario_word}
-use Rattle.tdl_top.specs.Answers.{HasBundle, HasAsked, IsTooLong, IsOfNoForm}
+use Rattle.tdl_report.specs.declared.status.Status.{Status}
+use Rattle.tdl_report.specs.declared.status.Status.TheVariants.{Ok, Usage, LoadFailed, WriteFailed, SaveFailed, NoMemory}
+use Rattle.tdl_words.specs.declared.words.Call.{Call}
+use Rattle.tdl_words.specs.Words.{Words, call_in, scenario_word}
+use Rattle.tdl_top.specs.Inputs.{HasBundle, IsRefused}
+use Rattle.tdl_top.specs.Answers.{HasAsked}
 
 -- the first file gives a bundle, and the scenario that is asked for is one of it
 pub record HoldsInputs (held : Held) (words : Words) (call : Call) : Type 0 where
@@ -17,9 +18,7 @@ pub record HoldsInputs (held : Held) (words : Words) (call : Call) : Type 0 wher
 -- the answer that a call and the files ask for
 abbrev pub IsDueOf : Held → Words → Call → Status → Type 0
 IsDueOf held words call Ok = HoldsInputs held words call
-IsDueOf held words call (TooLong w) = IsTooLong (Some held) words call w
-IsDueOf held words call (BadForm w) = IsOfNoForm (Some held) words call w
-IsDueOf held words call status = ⊥
+IsDueOf held words call status = IsRefused (Some held) words call status
 
 -- the same by what the words ask for
 abbrev pub IsDueBy : Held → Words → Option Call → Status → Type 0

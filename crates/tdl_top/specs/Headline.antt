@@ -16,10 +16,10 @@ use Rattle.tdl_verify.specs.Runs.{IsAlive}
 use Rattle.tdl_verify.specs.Texts.{bundle_names, bundle_run, bundle_text}
 use Rattle.tdl_gen.specs.Realises.{Realises}
 use Rattle.tdl_make.specs.PlainBundle.{IsPlainBundle}
-use Rattle.tdl_top.specs.Words.{Words, word_at}
-use Rattle.tdl_top.specs.Calls.{FilesCall, SinkCall}
+use Rattle.tdl_words.specs.Words.{Words, word_at}
+use Rattle.tdl_report.specs.Calls.{FilesCall, SinkCall}
 use Rattle.tdl_top.specs.Taken.{IsRead, IsTaken}
-use Rattle.tdl_top.specs.Answers.{HasScenario}
+use Rattle.tdl_top.specs.Inputs.{HasScenario}
 
 -- the words and the files give the program, its placement and its schedule, and the file at word w is the spelling of a
 -- bundle that realises them

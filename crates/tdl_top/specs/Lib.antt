@@ -1,8 +1,6 @@
-pub mod Words
-pub mod Statuses
-pub mod Calls
-pub mod Reports
+pub mod Sources
 pub mod Taken
+pub mod Inputs
 pub mod Answers
 pub mod Due
 pub mod Loads

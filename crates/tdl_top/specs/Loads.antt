@@ -1,9 +1,12 @@
--- What one load, one save and the printing of a call say.
+-- What one load, one reading of its bytes, one save and the printing of a call say.
 use Rattle.std.specs.Prelude.{◌≡◌, ℕ, List, ⊤}
 use Rattle.tdl_io.specs.Outside.{Rose, HasNamedCause, IsLonger, AppendsPart}
-use Rattle.tdl_top.specs.declared.status.Status.{Status}
-use Rattle.tdl_top.specs.declared.status.Status.TheVariants.{LoadFailed, TooLong, WriteFailed, SaveFailed, NoMemory}
-use Rattle.tdl_top.specs.Calls.{FilesCall, SinkCall, IsUnchanged}
+use Rattle.tdl_scan.specs.Tokens.{IsTokenFault}
+use Rattle.tdl_decode.specs.BundleGrammar.{IsBundleFault}
+use Rattle.tdl_report.specs.declared.status.Status.{Status}
+use Rattle.tdl_report.specs.declared.status.Status.TheVariants.{LoadFailed, TooLong, BadToken, BadSyntax, WriteFailed, SaveFailed, BadBundle, NoMemory}
+use Rattle.tdl_top.specs.Sources.{HasSyntaxFault}
+use Rattle.tdl_report.specs.Calls.{FilesCall, SinkCall, IsUnchanged}
 
 -- what a refusal of a load of a name says, at this limit and word
 abbrev pub LoadSays : FilesCall → List ℕ → ℕ → ℕ → Status → Type 0
@@ -13,6 +16,24 @@ LoadSays files name limit at (LoadFailed w) =
 LoadSays files name limit at (TooLong w) = (w ≡ at) × IsLonger files.before.holds name limit
 LoadSays files name limit at NoMemory = ⊤
 LoadSays files name limit at status = ⊥
+
+-- what a refusal of the scan of a source says
+abbrev pub ScanSays : List ℕ → Status → Type 0
+ScanSays bytes (BadToken w line col) = (w ≡ 1) × IsTokenFault bytes line col
+ScanSays bytes NoMemory = ⊤
+ScanSays bytes status = ⊥
+
+-- what a refusal of the tokens of a source says
+abbrev pub ParseSays : List ℕ → Status → Type 0
+ParseSays bytes (BadSyntax w line col) = (w ≡ 1) × HasSyntaxFault bytes line col
+ParseSays bytes NoMemory = ⊤
+ParseSays bytes status = ⊥
+
+-- what a refusal of the bytes of a bundle says
+abbrev pub DecodeSays : List ℕ → Status → Type 0
+DecodeSays bytes (BadBundle rule at) = IsBundleFault bytes rule at
+DecodeSays bytes NoMemory = ⊤
+DecodeSays bytes status = ⊥
 
 -- what a refusal of a save of a name says, at this word
 abbrev pub SaveSays : FilesCall → List ℕ → ℕ → Status → Type 0

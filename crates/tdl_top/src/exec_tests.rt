@@ -69,19 +69,27 @@ fn changed(alloc: Global, at: usize, byte: u8) -> Result<Vec<u8>, AllocError> {
 #[test]
 fn other_bytes_are_no_bundle(rt: HostRuntime) -> Result<(), Fail> {
     let letter = changed(rt.alloc(), 0, 0)?;
-    let count = changed(rt.alloc(), 14, 10)?;
+    let images = changed(rt.alloc(), 7, 0)?;
     let mut longer = Vec::from_slice(rt.alloc(), &BUNDLE)?;
     longer.push(0)?;
     let shorter = &BUNDLE[..216];
-    let all = [
-        letter.as_slice(),
-        count.as_slice(),
-        longer.as_slice(),
-        shorter,
+    let rows = [
+        (letter.as_slice(), 1, 0, "tdl: bundle B1 at 0\n"),
+        (shorter, 2, 216, "tdl: bundle B2 at 216\n"),
+        (longer.as_slice(), 3, 217, "tdl: bundle B3 at 217\n"),
+        (images.as_slice(), 4, 6, "tdl: bundle B4 at 6\n"),
     ];
-    for bytes in all {
-        let form = Status::BadForm { word: 1 };
-        try_case(&rt, rt.alloc(), &not_executed(bytes, form, "tdl: form b\n"))?;
+    for (bytes, rule, at, line) in rows {
+        let status = Status::BadBundle { rule, at };
+        try_case(&rt, rt.alloc(), &not_executed(bytes, status, line))?;
     }
     Ok(())
+}
+
+#[test]
+fn other_bundles_are_not_run(rt: HostRuntime) -> Result<(), Fail> {
+    let count = changed(rt.alloc(), 14, 10)?;
+    let form = Status::BadForm { word: 1 };
+    let case = not_executed(count.as_slice(), form, "tdl: form b\n");
+    try_case(&rt, rt.alloc(), &case)
 }

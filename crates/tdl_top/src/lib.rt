@@ -2,16 +2,11 @@
 #![tactic(auto)]
 
 mod inputs;
-pub mod laws;
 mod print;
-mod report;
 mod save;
-mod status;
 mod top;
-mod words;
 
-pub use status::Status;
-pub use tdl_read::{PlainError, read_plain};
+pub use tdl_report::Status;
 pub use top::tdl;
 
 #[cfg(test)]
@@ -23,8 +18,12 @@ mod exec_tests;
 #[cfg(test)]
 mod fault_tests;
 #[cfg(test)]
+mod plain_tests;
+#[cfg(test)]
 mod run_tests;
 #[cfg(test)]
 mod samples;
+#[cfg(test)]
+mod syntax_tests;
 #[cfg(test)]
 mod words_tests;

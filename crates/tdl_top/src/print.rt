@@ -5,16 +5,15 @@ ghost use Rattle.tdl_base.specs.declared.limits.TheConstants.{HORIZON_US};
 ghost use Rattle.tdl_io.specs.Outside.{Appends};
 ghost use Rattle.tdl_verify.specs.Texts.{bundle_text};
 ghost use Rattle.tdl_make.specs.PlainBundle.{IsPlainBundle};
-ghost use Rattle.tdl_top.specs.Calls.{sink_call};
+ghost use Rattle.tdl_report.specs.Calls.{sink_call};
 ghost use Rattle.tdl_top.specs.Loads.{PrintSays};
 
-use crate::Status;
 use std::alloc::Global;
 use tdl_host::HostMachine;
 use tdl_image::Bundle;
 use tdl_io::Sink;
-use tdl_node::{NodeFault, run};
-use tdl_read::bundle_names;
+use tdl_node::{NodeFault, bundle_names, run};
+use tdl_report::Status;
 use tdl_scen::Scenario;
 
 /// Runs a plain bundle under a scenario, and puts the line of each row. Such a bundle never traps.

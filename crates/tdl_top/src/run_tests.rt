@@ -18,7 +18,14 @@ fn a_source_is_run(rt: HostRuntime) -> Result<(), Fail> {
         },
         Case {
             source: Some(""),
-            ..refused(Status::BadForm { word: 1 }, "tdl: form P.tdl\n")
+            ..refused(
+                Status::BadSyntax {
+                    word: 1,
+                    line: 1,
+                    col: 1,
+                },
+                "tdl: syntax at P.tdl:1:1\n",
+            )
         },
         Case {
             scenario: Some("horizon 1000001\n"),

@@ -2,17 +2,16 @@ ghost use Rattle.std.specs.Prelude.{◌≡◌, ◌≤◌, OnOk, IfErr};
 ghost use Rattle.tdl_io.specs.Outside.{Saves, KeepsOthers};
 ghost use Rattle.tdl_image.specs.Spelling.{bundle_bytes};
 ghost use Rattle.tdl_image.specs.Spellable.{IsSpellable};
-ghost use Rattle.tdl_top.specs.Words.{texts, word_at};
-ghost use Rattle.tdl_top.specs.Calls.{files_call, sink_call};
+ghost use Rattle.tdl_words.specs.Words.{texts, word_at};
+ghost use Rattle.tdl_report.specs.Calls.{files_call, sink_call};
 ghost use Rattle.tdl_top.specs.Loads.{SaveSays};
-ghost use Rattle.tdl_top.specs.Reports.{IsQuiet, IsToldOfSave};
+ghost use Rattle.tdl_report.specs.Reports.{IsQuiet, IsToldOfSave};
 
-use crate::Status;
-use crate::report::{line_with, say};
-use crate::words::word;
 use std::alloc::Global;
 use tdl_image::{Bundle, write_bundle};
 use tdl_io::{Files, SaveAnswer, Sink};
+use tdl_report::{Status, named_line, say};
+use tdl_words::word;
 
 // Saves the file that word `at` names. The line of a failed save takes its memory before the save,
 // and is put here.
@@ -34,7 +33,7 @@ fn save<F: Files, E: Sink>(
         (sink_call E.told err.old err.new)) }
     ensures quiet { OnOk result (IsQuiet (sink_call E.told err.old err.new)) }
 {
-    let line = line_with(alloc, b"tdl: cannot save ", word(words, at))?;
+    let line = named_line(alloc, b"tdl: cannot save ", word(words, at))?;
     match files.save(word(words, at), bytes) {
         Ok(()) => Ok(()),
         Err(SaveAnswer::Failed) => {

@@ -1,23 +1,22 @@
 ghost use Rattle.std.specs.Prelude.{◌≡◌, ◌≢◌, ◌⊎◌, ◌↔◌, ℕ, OnOk, IfErr, Some, None};
 ghost use Rattle.tdl_io.specs.Outside.{Held};
-ghost use Rattle.tdl_top.specs.declared.status.Status.{Status};
-ghost use Rattle.tdl_top.specs.declared.words.Call.{Call};
-ghost use Rattle.tdl_top.specs.Words.{texts, call_in};
-ghost use Rattle.tdl_top.specs.Statuses.{error_line};
-ghost use Rattle.tdl_top.specs.Calls.{SinkCall, files_call, sink_call, IsUnchanged, IsSilent};
-ghost use Rattle.tdl_top.specs.Reports.{IsSaid, IsQuiet, IsToldOfSave};
+ghost use Rattle.tdl_report.specs.declared.status.Status.{Status};
+ghost use Rattle.tdl_words.specs.declared.words.Call.{Call};
+ghost use Rattle.tdl_words.specs.Words.{texts, call_in};
+ghost use Rattle.tdl_report.specs.Statuses.{error_line};
+ghost use Rattle.tdl_report.specs.Calls.{SinkCall, files_call, sink_call, IsUnchanged, IsSilent};
+ghost use Rattle.tdl_report.specs.Reports.{IsSaid, IsQuiet, IsToldOfSave};
 ghost use Rattle.tdl_top.specs.Answers.{AnswerSays, AnswerSaysOf};
 ghost use Rattle.tdl_top.specs.Due.{IsDue, IsFault};
 ghost use Rattle.tdl_top.specs.Headline.{Compiles, Runs, Executes};
 
-use crate::Status;
 use crate::inputs::{read_bundle, read_scenario, read_source};
 use crate::print::print_run;
-use crate::report::report;
 use crate::save::save_bundle;
-use crate::words::{Call, read_call};
 use std::alloc::Global;
 use tdl_io::{Files, Sink};
+use tdl_report::{Status, report};
+use tdl_words::{Call, read_call};
 
 // Saves the source's bundle as the file that word `place` names.
 fn compile_source<F: Files, E: Sink>(

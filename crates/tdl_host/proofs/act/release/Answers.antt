@@ -3,8 +3,14 @@ use Rattle.tdl_base.specs.Lists.{changed_at}
 use Rattle.tdl_verify.specs.States.{Slot}
 use Rattle.tdl_verify.specs.Turns.{arguments}
 use Rattle.tdl_host.specs.Hosts.{value_at, task_outputs, slot_of, with_job}
+use Rattle.tdl_host.proofs.CheckedLemmas.{checked_arguments}
 use Rattle.tdl_host.proofs.ActLemmas.{released-on}
 use Rattle.tdl_host.proofs.act.release.Goals as goal
+
+pub first_cells-requires : goal.first_cells-requires
+first_cells-requires c =
+    checked_arguments c.args.scene.hosted.now c.in-Some.release.now.call c.in-Some-get.call.now c.requires.codes
+    (search rules)
 
 pub returns-clause-ok : goal.returns-clause-ok
 returns-clause-ok c rows pc =

@@ -96,4 +96,4 @@ returns-in_default-clause-released c bound n =
 
 pub act-requires-clause-released : goal.act-requires-clause-released
 act-requires-clause-released c =
-    counted-same (2 ^ 64 - 2) c.args.state.now c.pick.new.state c.pick.ensures.tasks c.requires
+    counted-same (2 ^ 64 - 2) c.args.state.now c.pick.new.state c.pick.ensures.tasks c.requires.released

@@ -90,8 +90,8 @@ returns-clause-released c =
     (counted-same (c.args.scene.at * 2 ^ 32 + c.loop-done._done) c.loop-done.state c.last.new.state tasks
     c.loop-done.invariant.released)) c.last.ensures.tasks
 
-pub step-requires : goal.step-requires
-step-requires c =
+pub step-requires-clause-released : goal.step-requires-clause-released
+step-requires-clause-released c =
     let fits : c.args.declared < 2 ^ 32 = c.ranges.declared.fits in
     counted-weaker (c.args.scene.at * 2 ^ 32 + c.loop-done._done) (2 ^ 64 - 2) c.loop-done.state (omega arith)
     c.loop-done.invariant.released

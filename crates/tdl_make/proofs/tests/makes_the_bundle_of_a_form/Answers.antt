@@ -33,3 +33,9 @@ write_bundle-requires g c =
     let is : c.in_ok-bundle.bundle ≡ plain_bundle counting_form =
     c.in_ok-bundle.ensures ∙ ap plain_bundle c.in_ok-form.ensures in
     subst (λ (b : Bundle). IsSpellable b) (sym is) (spellable counting_form lawful)
+
+pub is_plain_bundle-requires : goal.is_plain_bundle-requires
+is_plain_bundle-requires g c =
+    let is : c.in_ok-bundle.bundle ≡ plain_bundle counting_form =
+    c.in_ok-bundle.ensures ∙ ap plain_bundle c.in_ok-form.ensures in
+    subst (λ (b : Bundle). IsSpellable b) (sym is) (spellable counting_form lawful)

@@ -4,6 +4,7 @@ use Rattle.tdl_io.specs.Outside.{Appends, AppendsPart}
 use Rattle.tdl_host.specs.Hosts.{worst_times}
 use Rattle.tdl_io.proofs.Appending.{part_none}
 use Rattle.tdl_scen.proofs.SensesLemmas.{rising_in_order}
+use Rattle.tdl_host.proofs.PlainCodes.{plain_checked}
 use Rattle.tdl_top.proofs.Printing.{same_text, no_trap}
 use Rattle.tdl_top.proofs.print.print_run.Goals as goal
 
@@ -54,3 +55,6 @@ returns-clause-refused g c =
 pub run-requires-clause-order : goal.run-requires-clause-order
 run-requires-clause-order g c =
     rw c.as_slice-senses.ensures (rising_in_order c.args.scenario.now.senses c.requires.rising)
+
+pub begin-requires-clause-codes : goal.begin-requires-clause-codes
+begin-requires-clause-codes g c = plain_checked c.args.bundle.now c.requires.plain

@@ -1,8 +1,8 @@
 use Rattle.std.specs.Prelude.{codes}
 use Rattle.std.proofs.Common.{List, ℕ, ap, subst, ◌∙◌}
-use Rattle.tdl_top.specs.Calls.{sink_call}
-use Rattle.tdl_top.specs.Statuses.{named_line}
-use Rattle.tdl_top.specs.Reports.{IsSaid}
+use Rattle.tdl_report.specs.Calls.{sink_call}
+use Rattle.tdl_report.specs.Statuses.{named_line}
+use Rattle.tdl_report.specs.Reports.{IsSaid}
 use Rattle.tdl_top.proofs.save.save.Goals as goal
 
 pub returns-in-Err-Failed-clause-told : goal.returns-in-Err-Failed-clause-told

@@ -1,8 +1,8 @@
 use Rattle.std.proofs.Common.{rules, ℕ}
 use Rattle.std.specs.Prelude.{◌≢◌}
-use Rattle.tdl_top.specs.declared.status.Status.TheVariants.{SaveFailed}
-use Rattle.tdl_top.specs.Words.{texts, call_in}
-use Rattle.tdl_top.specs.Calls.{files_call, sink_call}
+use Rattle.tdl_report.specs.declared.status.Status.TheVariants.{SaveFailed}
+use Rattle.tdl_words.specs.Words.{texts, call_in}
+use Rattle.tdl_report.specs.Calls.{files_call, sink_call}
 use Rattle.tdl_top.proofs.Reported.{says_reported, quiet_said, reported_not_ok}
 use Rattle.tdl_top.proofs.top.answer.Goals as goal
 

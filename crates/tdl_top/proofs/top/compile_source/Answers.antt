@@ -1,7 +1,7 @@
 use Rattle.std.proofs.Common.{refl}
 use Rattle.std.proofs.lemmas.Result.{err_from_is_err_and, on_ok_weaker, IfErr-weaker}
-use Rattle.tdl_read.proofs.Hosts.{plain_spellable}
-use Rattle.tdl_top.specs.declared.words.Call.TheVariants.{Compile}
+use Rattle.tdl_make.proofs.Spelled.{plain_spellable}
+use Rattle.tdl_words.specs.declared.words.Call.TheVariants.{Compile}
 use Rattle.tdl_top.proofs.InputsSay.{input_not_ok, input_no_save}
 use Rattle.tdl_top.proofs.Saying.{says_input, says_save, others_since}
 use Rattle.tdl_top.proofs.Reported.{told_quiet}

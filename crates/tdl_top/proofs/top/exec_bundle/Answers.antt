@@ -1,6 +1,6 @@
 use Rattle.std.proofs.Common.{refl, ◌∙◌}
 use Rattle.std.proofs.lemmas.Result.{err_from_is_err_and, on_ok_weaker, IfErr-weaker}
-use Rattle.tdl_top.specs.declared.words.Call.TheVariants.{Exec}
+use Rattle.tdl_words.specs.declared.words.Call.TheVariants.{Exec}
 use Rattle.tdl_top.proofs.InputsSay.{says_earlier, input_not_ok, input_no_save, scenario_since, bundle_still}
 use Rattle.tdl_top.proofs.Saying.{says_input, says_done, says_part}
 use Rattle.tdl_top.proofs.top.exec_bundle.Goals as goal

@@ -1,8 +1,8 @@
 use Rattle.std.proofs.Common.{refl, ap, sym, ◌∙◌, Some}
 use Rattle.std.proofs.lemmas.Result.{IfErr-weaker}
-use Rattle.tdl_top.specs.declared.words.Call.TheVariants.{Compile}
-use Rattle.tdl_top.specs.Words.{texts, call_in}
-use Rattle.tdl_top.specs.Calls.{files_call, sink_call}
+use Rattle.tdl_words.specs.declared.words.Call.TheVariants.{Compile}
+use Rattle.tdl_words.specs.Words.{texts, call_in}
+use Rattle.tdl_report.specs.Calls.{files_call, sink_call}
 use Rattle.tdl_top.proofs.Reported.{says_called}
 use Rattle.tdl_top.proofs.top.perform.Goals as goal
 

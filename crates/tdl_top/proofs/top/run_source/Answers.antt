@@ -1,7 +1,7 @@
 use Rattle.std.proofs.Common.{refl, ◌∙◌}
 use Rattle.std.proofs.lemmas.Result.{err_from_is_err_and, on_ok_weaker, IfErr-weaker}
-use Rattle.tdl_read.proofs.Hosts.{plain_spellable}
-use Rattle.tdl_top.specs.declared.words.Call.TheVariants.{Run}
+use Rattle.tdl_make.proofs.Spelled.{plain_spellable}
+use Rattle.tdl_words.specs.declared.words.Call.TheVariants.{Run}
 use Rattle.tdl_top.proofs.Loading.{loads_then}
 use Rattle.tdl_top.proofs.InputsSay.{says_earlier, input_not_ok, input_no_save, scenario_since, bundle_still}
 use Rattle.tdl_top.proofs.Saying.{says_input, says_save, says_done, says_part, others_since}

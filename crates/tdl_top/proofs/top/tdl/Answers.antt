@@ -1,7 +1,7 @@
-use Rattle.tdl_top.specs.declared.status.Status.TheVariants.{Ok}
-use Rattle.tdl_top.specs.declared.words.Call.TheVariants.{Compile, Run, Exec}
-use Rattle.tdl_top.specs.Words.{texts, call_in}
-use Rattle.tdl_top.specs.Calls.{files_call, sink_call}
+use Rattle.tdl_report.specs.declared.status.Status.TheVariants.{Ok}
+use Rattle.tdl_words.specs.declared.words.Call.TheVariants.{Compile, Run, Exec}
+use Rattle.tdl_words.specs.Words.{texts, call_in}
+use Rattle.tdl_report.specs.Calls.{files_call, sink_call}
 use Rattle.tdl_top.proofs.Reported.{says_at, says_usage}
 use Rattle.tdl_top.proofs.Once.{says_exactly}
 use Rattle.tdl_top.proofs.Done as done

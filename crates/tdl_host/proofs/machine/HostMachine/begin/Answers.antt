@@ -1,7 +1,18 @@
 use Rattle.std.proofs.Common.{◌≡◌, map, rules}
 use Rattle.tdl_verify.specs.States.{Part, task_first, host_first}
+use Rattle.std.specs.List.{All}
+use Rattle.tdl_image.specs.declared.bundle.Image.{Image}
+use Rattle.tdl_host.specs.CheckedCodes.{HasCheckedCodes}
+use Rattle.tdl_host.proofs.CheckedLemmas.{all-at}
 use Rattle.tdl_host.proofs.CountLemmas.{first-counted}
 use Rattle.tdl_host.proofs.machine.HostMachine.begin.Goals as goal
+
+pub invariant_of-result : goal.invariant_of-result
+invariant_of-result c =
+    let hosts : All HasCheckedCodes c.in-Some.image.now.hosted =
+    all-at (λ (image : Image). All HasCheckedCodes image.hosted) c.args.bundle.now.images 0 c.in-Some.image.now
+    c.requires.codes (search rules) in
+    all-at HasCheckedCodes c.in-Some.image.now.hosted 0 c.in-Some-get.hosted.now hosts (search rules)
 
 pub returns-clause-ready : goal.returns-clause-ready
 returns-clause-ready c =

@@ -1,0 +1,13 @@
+pub mod AscendingExact
+pub mod BundleExact
+pub mod CodesExact
+pub mod EInstrExact
+pub mod Exact
+pub mod HostedExact
+pub mod Identifiers
+pub mod ImageExact
+pub mod ListedExact
+pub mod LongExact
+pub mod Loops
+pub mod NumberFields
+pub mod TablesExact

@@ -1,0 +1,4 @@
+pub mod Steps
+pub mod Standing
+pub mod Nearer
+pub mod InStep

@@ -1,0 +1,5 @@
+pub mod Grammar
+pub mod Parsing
+pub mod Counting
+pub mod Goodness
+pub mod Example

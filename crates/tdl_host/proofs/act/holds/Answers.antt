@@ -1,0 +1,7 @@
+use Rattle.std.proofs.Common.{rules}
+use Rattle.tdl_host.proofs.CheckedLemmas.{checked_guard}
+use Rattle.tdl_host.proofs.act.holds.Goals as goal
+
+pub value-requires : goal.value-requires
+value-requires c =
+    checked_guard c.args.scene.hosted.now c.args.guard c.in-Some.guard.now c.requires (search rules)

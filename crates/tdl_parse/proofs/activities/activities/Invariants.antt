@@ -1,0 +1,13 @@
+use Rattle.std.proofs.Common.{◌≡◌, ◌≤◌, length}
+use Rattle.tdl_grammar.specs.Parsing.{repeat, many, with_front}
+use Rattle.tdl_parse.specs.ReadingExpressions.{outermost}
+use Rattle.tdl_parse.specs.ReadingActivities.{begins_act, act}
+use Rattle.tdl_parse.proofs.activities.activities.Given as goal
+
+abbrev pub invariant-loop-more : goal.invariant-loop-more
+invariant-loop-more l =
+    (with_front l.items.items (repeat begins_act (act outermost) l.more l.rest) ≡ many begins_act (act outermost) l.words)
+    × (length l.rest ≤ length l.words)
+
+abbrev pub decreases-loop-more : goal.decreases-loop-more
+decreases-loop-more l = l.more

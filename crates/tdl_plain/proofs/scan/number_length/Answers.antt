@@ -1,5 +1,0 @@
-use Rattle.tdl_plain.proofs.Cutting.{number_some}
-use Rattle.tdl_plain.proofs.scan.number_length.Goals as goal
-
-pub returns : goal.returns
-returns c = number_some c.args.bytes.now c.digit_run.result c.requires c.digit_run.ensures

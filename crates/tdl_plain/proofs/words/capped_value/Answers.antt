@@ -1,7 +1,0 @@
-use Rattle.tdl_plain.proofs.Values.{value_step}
-use Rattle.tdl_plain.proofs.words.capped_value.Goals as goal
-
-pub loop-c-preserved : goal.loop-c-preserved
-loop-c-preserved c =
-    value_step c.args.digits.now c.loop-c.c-index c.loop-c.value _ _ _ c.loop-c-test.true c.loop-c.invariant
-    c.saturating_mul.ensures c.digit_value.ensures c.saturating_add-value.ensures

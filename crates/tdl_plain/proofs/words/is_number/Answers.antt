@@ -1,7 +1,0 @@
-use Rattle.std.proofs.Common.{sym, ◌∙◌}
-use Rattle.tdl_plain.proofs.Values.{number_after}
-use Rattle.tdl_plain.proofs.words.is_number.Goals as goal
-
-pub returns-then-is_digit : goal.returns-then-is_digit
-returns-then-is_digit c =
-    c.are_digits.ensures ∙ number_after c.args.token.now (sym c.is_digit.ensures ∙ c.if-is_digit.true)

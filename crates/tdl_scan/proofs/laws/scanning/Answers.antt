@@ -1,0 +1,14 @@
+use Rattle.tdl_scan.proofs.Found.{one, never_both, one_list, one_place}
+use Rattle.tdl_scan.proofs.laws.scanning.Goals as goal
+
+pub returns-clause-one : goal.returns-clause-one
+returns-clause-one c = one
+
+pub returns-clause-never_both : goal.returns-clause-never_both
+returns-clause-never_both c = never_both
+
+pub returns-clause-one_list : goal.returns-clause-one_list
+returns-clause-one_list c = one_list
+
+pub returns-clause-one_place : goal.returns-clause-one_place
+returns-clause-one_place c = one_place

@@ -1,0 +1,47 @@
+-- A source has one tree at most or one fault, and says one program at most.
+use Rattle.std.proofs.Common.{◌≡◌, ℕ, List, ap, sym, ◌∙◌, subst}
+use Rattle.tdl_mode.specs.declared.program.Program.{Program}
+use Rattle.tdl_scan.specs.declared.token.Token.{Token}
+use Rattle.tdl_scan.proofs.Found.{one_list}
+use Rattle.tdl_scan.specs.declared.place.SourcePlace.{SourcePlace}
+use Rattle.tdl_tree.specs.declared.declarations.Tree.{Tree}
+use Rattle.tdl_tree.specs.Sentences.{Sentence}
+use Rattle.tdl_tree.proofs.Faulty.{one_fault}
+use Rattle.tdl_parse.specs.Words.{words_of}
+use Rattle.tdl_parse.specs.Faults.{IsFaultAt, place_of}
+use Rattle.tdl_parse.proofs.Sentences.{one_tree}
+use Rattle.tdl_parse.proofs.SyntaxFaults.{sentence_no_fault}
+use Rattle.tdl_plain.specs.Says.{Says}
+use Rattle.tdl_plain.proofs.Unique.{says_unique}
+use Rattle.tdl_top.specs.Sources.{HasTree, HasSyntaxFault, IsSentence, SaysProgram}
+
+-- two trees of one source are one
+pub tree_once : (source : List ℕ) (a b : Tree) → HasTree source a → HasTree source b → a ≡ b
+tree_once source a b x y =
+    one_tree a b (words_of source y.tokens)
+    (subst (λ (tokens : List Token). Sentence a (words_of source tokens))
+    (one_list source x.tokens y.tokens x.scanned y.scanned) x.spelled) y.spelled
+
+-- two programs of one source are one
+pub program_once : (source : List ℕ) (p q : Program) → SaysProgram source p → SaysProgram source q → p ≡ q
+program_once source p q x y =
+    says_unique p q y.tree
+    (subst (λ (tree : Tree). Says tree p) (tree_once source x.tree y.tree x.spelled y.spelled) x.says) y.says
+
+-- two faults of one source's tokens stand at one place
+pub syntax_once : (source : List ℕ) (l c m d : ℕ) → HasSyntaxFault source l c → HasSyntaxFault source m d →
+    (l ≡ m) × (c ≡ d)
+syntax_once source l c m d x y =
+    let fault = subst (λ (tokens : List Token). IsFaultAt source tokens l c)
+    (one_list source x.tokens y.tokens x.scanned y.scanned) x.fault in
+    let rest = one_fault (words_of source y.tokens) fault.rest y.fault.rest fault.fault y.fault.fault in
+    let place : record { line = l; col = c } ≡ record { line = m; col = d } =
+    fault.place ∙ ap (place_of source) rest ∙ sym y.fault.place in
+    (ap (λ (p : SourcePlace). p.line) place, ap (λ (p : SourcePlace). p.col) place)
+
+-- a source that has a tree has no such fault
+pub syntax_tree : (source : List ℕ) (l c : ℕ) → HasSyntaxFault source l c → IsSentence source → ⊥
+syntax_tree source l c x y =
+    let spelled = subst (λ (tokens : List Token). Sentence y.tree (words_of source tokens))
+    (one_list source y.spelled.tokens x.tokens y.spelled.scanned x.scanned) y.spelled.spelled in
+    sentence_no_fault (words_of source x.tokens) x.fault.rest y.tree spelled x.fault.fault

@@ -1,0 +1,9 @@
+pub mod Kinds
+pub mod Words
+pub mod Names
+pub mod Expressions
+pub mod Statements
+pub mod Activities
+pub mod Declarations
+pub mod Sentences
+pub mod Faults

@@ -1,0 +1,10 @@
+use Rattle.tdl_words.proofs.TakenWords.{compile, run, run_scenario_first, exec}
+use Rattle.tdl_words.proofs.laws.words_of_calls.Goals as goal
+
+pub returns : goal.returns
+returns c = record {
+  compile = compile;
+  run = run;
+  run_scenario_first = run_scenario_first;
+  exec = exec;
+}
