@@ -1,6 +1,7 @@
 -- What each instruction does, once what it looks up is known.
-use Rattle.std.proofs.Common.{◌≡◌, ℕ, suc, List, ◌++◌, length, set, slice_get, Option, Some, None, is_some, true, option_map, unwrap_or, ℤ, pos, replicate, ◌==◌, arith, refl, ap, ap₂, sym, ◌∙◌}
+use Rattle.std.proofs.Common.{◌≡◌, ℕ, suc, List, ◌++◌, length, map, set, slice_get, Option, Some, None, Result, OnOk, true, false, ℤ, pos, replicate, ◌==◌, arith, refl, ap, ap₂, sym, ◌∙◌}
 use Rattle.std.proofs.lemmas.List.{append-nil}
+use Rattle.std.proofs.lemmas.Result.{on_ok_weaker}
 use Rattle.std.proofs.lemmas.Bool.{false≢true}
 use Rattle.std.proofs.lemmas.Bool.Decides.{nat_tests}
 use Rattle.tdl_base.specs.Lists.{changed_at}
@@ -14,8 +15,12 @@ use Rattle.tdl_image.specs.declared.hosted.TaskTable.{TaskTable}
 use Rattle.tdl_image.specs.declared.hosted.CallEntry.{CallEntry}
 use Rattle.tdl_image.specs.declared.hosted.ReleaseEntry.{ReleaseEntry}
 use Rattle.tdl_verify.specs.Turns.{Acted, output_rows, arguments}
-use Rattle.tdl_host.specs.Hosts.{acts, value_at, worst_times, task_outputs, slot_of, with_job, IsCommittedAt, IsLate}
+use Rattle.tdl_node.specs.declared.machine.Stop.{Stop}
+use Rattle.tdl_task.specs.Jobs.{narrowed_each}
+use Rattle.tdl_host.specs.CheckedCodes.{IsCheckedCall}
+use Rattle.tdl_host.specs.Hosts.{HostedNow, acts, value_at, worst_times, task_outputs, slot_of, is_idle, with_job, IsCommittedAt, IsStartedAt, IsBusyAt, IsLate}
 use Rattle.tdl_host.proofs.ListSteps.{changed_at-set}
+use Rattle.tdl_host.proofs.JobLemmas.{narrowed-arguments}
 
 pub ended-kept : (h : Hosted) (senses : List Sense) (x : ℕ) (rows : List Shown) (s s' : HostNow) (pc t : ℕ) →
     slot_of s t ≡ Slot.Idle → s' ≡ s → acts h senses x rows s pc (End t) ≡ Acted.On (Part.Host h s') rows (suc pc)
@@ -33,11 +38,6 @@ ended-done h senses x rows rows' s s' pc t done er =
     er ∙ ap (λ o. rows ++ output_rows x 0 h.number.0 t o) done.shown in
     rw (done.was, shown, done.now) refl
 
--- an option that is there has a value
-pub some-of : {A : Type 0} (o : Option A) → is_some o ≡ true → (u : A) × (o ≡ Some u)
-some-of None e = absurd (false≢true e)
-some-of (Some u) e = (u, refl)
-
 -- a job of the module's own task takes its worst case
 worst-own : (h : Hosted) (t k : ℕ) (table : TaskTable) → slice_get h.tasks t ≡ Some table →
     worst_times h h.number.0 t k ≡ table.worst
@@ -48,18 +48,22 @@ changed_at-same : {A : Type 0} (k : ℕ) (f g : A → A) (u : A) (xs : List A) �
     changed_at k f xs ≡ changed_at k g xs
 changed_at-same k f g u xs at e = changed_at-set k f u xs at ∙ ap (λ z. set xs k z) e ∙ sym (changed_at-set k g u xs at)
 
-released-at : (h : Hosted) (senses : List Sense) (x : ℕ) (rows : List Shown) (s s' : HostNow) (pc i : ℕ)
-    (r : ReleaseEntry) (call : CallEntry) (table : TaskTable) (cells : List ℤ) (u : TaskNow) →
-    slice_get h.releases i ≡ Some r → slice_get h.calls r.call ≡ Some call → slice_get h.tasks call.task ≡ Some table →
-    slice_get s.tasks call.task ≡ Some u → slot_of s call.task ≡ Slot.Idle →
-    cells ≡ arguments (value_at h s senses x) table.inputs call.args ++ task_outputs s call.task
-    ++ replicate (length table.locals) (pos 0) →
-    s' ≡ record s { tasks = changed_at call.task (with_job r.mode r.invocation table.worst cells) s.tasks } →
+-- a call whose task has no table releases nothing
+pub released-none : (h : Hosted) (senses : List Sense) (x : ℕ) (rows : List Shown) (s s' : HostNow) (pc i : ℕ)
+    (r : ReleaseEntry) (call : CallEntry) → slice_get h.releases i ≡ Some r → slice_get h.calls r.call ≡ Some call →
+    slice_get h.tasks call.task ≡ None → s' ≡ s →
     acts h senses x rows s pc (Release i) ≡ Acted.On (Part.Host h s') rows (suc pc)
-released-at h senses x rows s s' pc i r call table cells u er ec et at idle ecells es =
-    let free : u.slot ≡ Slot.Idle =
-    ap (λ (o : Option TaskNow). unwrap_or (option_map (λ (v : TaskNow). v.slot) o) Slot.Idle) (sym at) ∙ idle in
-    let own : task_outputs s call.task ≡ u.outputs = rw at refl in
+released-none h senses x rows s s' pc i r call er ec et same = rw (er, ec, et, append-nil rows, same) refl
+
+-- a job that is released with the numbers of its call's arguments
+pub released-on : (h : Hosted) (senses : List Sense) (x : ℕ) (rows : List Shown) (s s' : HostNow) (pc i : ℕ)
+    (r : ReleaseEntry) (call : CallEntry) (table : TaskTable) (inputs : List ℤ) → slice_get h.releases i ≡ Some r →
+    slice_get h.calls r.call ≡ Some call → slice_get h.tasks call.task ≡ Some table →
+    length call.args ≡ length table.inputs → inputs ≡ map (value_at h s senses x) call.args →
+    IsStartedAt call.task r inputs table s s' →
+    acts h senses x rows s pc (Release i) ≡ Acted.On (Part.Host h s') rows (suc pc)
+released-on h senses x rows s s' pc i r call table inputs er ec et count values started =
+    let u : TaskNow = started.was in
     let begun : TaskNow → TaskNow =
     λ v. record v {
       slot = Slot.Ready r.mode r.invocation (worst_times h h.number.0 call.task (suc v.released))
@@ -67,28 +71,54 @@ released-at h senses x rows s s' pc i r call table cells u er ec et at idle ecel
           ++ replicate (length table.locals) (pos 0));
       released = suc v.released;
     } in
-    let all : cells ≡ arguments (value_at h s senses x) table.inputs call.args ++ u.outputs
-    ++ replicate (length table.locals) (pos 0) =
-    ecells ∙ ap (λ o. arguments (value_at h s senses x) table.inputs call.args ++ o
-    ++ replicate (length table.locals) (pos 0)) own in
-    let same : begun u ≡ with_job r.mode r.invocation table.worst cells u =
-    ap₂ (λ w cs. record u { slot = Slot.Ready r.mode r.invocation w cs; released = suc u.released })
-    (worst-own h call.task (suc u.released) table et) (sym all) in
-    let tasks : changed_at call.task begun s.tasks
-    ≡ changed_at call.task (with_job r.mode r.invocation table.worst cells) s.tasks =
-    changed_at-same call.task begun (with_job r.mode r.invocation table.worst cells) u s.tasks at same in
-    rw (er, ec, et, at, free, append-nil rows)
+    let narrow : arguments (value_at h s senses x) table.inputs call.args ≡ narrowed_each table.inputs inputs =
+    sym (ap (λ vs. narrowed_each table.inputs vs) values
+    ∙ narrowed-arguments (value_at h s senses x) table.inputs call.args count) in
+    let same : begun u ≡ with_job table r inputs u =
+    ap₂
+    (λ w vs. record u {
+      slot = Slot.Ready r.mode r.invocation w (vs ++ u.outputs ++ replicate (length table.locals) (pos 0));
+      released = suc u.released;
+    })
+    (worst-own h call.task (suc u.released) table et) narrow in
+    let tasks : changed_at call.task begun s.tasks ≡ changed_at call.task (with_job table r inputs) s.tasks =
+    changed_at-same call.task begun (with_job table r inputs) u s.tasks started.here same in
+    rw (er, ec, et, started.here, started.idle, append-nil rows)
     (ap (λ ts. Acted.On (Part.Host h (record s { tasks = ts })) rows (suc pc)) tasks
-    ∙ ap (λ z. Acted.On (Part.Host h z) rows (suc pc)) (sym es))
+    ∙ ap (λ z. Acted.On (Part.Host h z) rows (suc pc)) (sym started.now))
 
-pub released-on : (h : Hosted) (senses : List Sense) (x : ℕ) (rows : List Shown) (s s' : HostNow) (pc i : ℕ)
-    (r : ReleaseEntry) (call : CallEntry) (table : TaskTable) (cells : List ℤ) → slice_get h.releases i ≡ Some r →
+-- a task with a job is busy
+busy-slot : (h : Hosted) (senses : List Sense) (x : ℕ) (rows : List Shown) (s : HostNow) (pc i : ℕ)
+    (r : ReleaseEntry) (call : CallEntry) (table : TaskTable) (u : TaskNow) → slice_get h.releases i ≡ Some r →
     slice_get h.calls r.call ≡ Some call → slice_get h.tasks call.task ≡ Some table →
-    is_some (slice_get s.tasks call.task) ≡ true → slot_of s call.task ≡ Slot.Idle →
-    cells ≡ arguments (value_at h s senses x) table.inputs call.args ++ task_outputs s call.task
-    ++ replicate (length table.locals) (pos 0) →
-    s' ≡ record s { tasks = changed_at call.task (with_job r.mode r.invocation table.worst cells) s.tasks } →
-    acts h senses x rows s pc (Release i) ≡ Acted.On (Part.Host h s') rows (suc pc)
-released-on h senses x rows s s' pc i r call table cells er ec et is idle ecells es =
-    let found = some-of (slice_get s.tasks call.task) is in
-    released-at h senses x rows s s' pc i r call table cells found.0 er ec et found.1 idle ecells es
+    slice_get s.tasks call.task ≡ Some u → (slot : Slot) → u.slot ≡ slot → is_idle slot ≡ false →
+    acts h senses x rows s pc (Release i) ≡ Acted.Stop why.Busy
+busy-slot h senses x rows s pc i r call table u er ec et eu Slot.Idle e busy = absurd (false≢true (sym busy))
+busy-slot h senses x rows s pc i r call table u er ec et eu (Slot.Ready mode invocation left cells) e busy =
+    rw (er, ec, et, eu, e) refl
+busy-slot h senses x rows s pc i r call table u er ec et eu (Slot.Done mode invocation outputs) e busy =
+    rw (er, ec, et, eu, e) refl
+
+-- a release whose task has a job is a trap
+pub released-busy : (v : HostedNow) (senses : List Sense) (x : ℕ) (rows : List Shown) (pc i : ℕ) (r : ReleaseEntry)
+    (call : CallEntry) → slice_get v.host.releases i ≡ Some r → slice_get v.host.calls r.call ≡ Some call →
+    IsBusyAt call.task v → acts v.host senses x rows v.now pc (Release i) ≡ Acted.Stop why.Busy
+released-busy v senses x rows pc i r call er ec at =
+    busy-slot v.host senses x rows v.now pc i r call at.table at.was er ec at.of_table at.here at.was.slot refl at.busy
+
+-- what a release comes to, whether its task has a table or not
+pub released-ok : (h : Hosted) (senses : List Sense) (x : ℕ) (s s' : HostNow) (i : ℕ) (r : ReleaseEntry)
+    (call : CallEntry) (inputs : List ℤ) (done : Result Unit Stop) → slice_get h.releases i ≡ Some r →
+    slice_get h.calls r.call ≡ Some call → IsCheckedCall h.tasks call →
+    inputs ≡ map (value_at h s senses x) call.args → OnOk done (slice_get h.tasks call.task ≡ None → s' ≡ s) →
+    OnOk done
+    ((table : TaskTable) → slice_get h.tasks call.task ≡ Some table → IsStartedAt call.task r inputs table s s') →
+    (o : Option TaskTable) → slice_get h.tasks call.task ≡ o →
+    OnOk done ((rows : List Shown) (pc : ℕ) →
+    acts h senses x rows s pc (Release i) ≡ Acted.On (Part.Host h s') rows (suc pc))
+released-ok h senses x s s' i r call inputs done er ec checked values absent started None e =
+    on_ok_weaker done (λ same rows pc. released-none h senses x rows s s' pc i r call er ec e (same e)) absent
+released-ok h senses x s s' i r call inputs done er ec checked values absent started (Some table) e =
+    on_ok_weaker done
+    (λ starts rows pc. released-on h senses x rows s s' pc i r call table inputs er ec e (checked.count table e) values
+    (starts table e)) started

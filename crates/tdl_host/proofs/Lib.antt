@@ -1,4 +1,5 @@
 pub mod ListSteps
+pub mod JobLemmas
 pub mod StateLemmas
 pub mod ActLemmas
 pub mod PlainLemmas

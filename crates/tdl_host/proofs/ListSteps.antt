@@ -1,39 +1,42 @@
--- One more step along a list, for the loops over arguments and outputs, and writes at a place.
-use Rattle.std.proofs.Common.{◌≡◌, ℕ, zero, suc, ◌+◌, ◌<◌, ℤ, List, [], ◌∷◌, ◌++◌, length, drop, get_or, set, slice_get, Some, refl, ap, sym, ◌∙◌, append_assoc, add-one, ◌≤◌, arith}
-use Rattle.std.proofs.Math.Seq.{drop-cons}
+-- An item at its place in a list, and a list of which one item has changed.
+use Rattle.std.proofs.Common.{◌≡◌, ℕ, zero, suc, ◌<◌, ◌≤◌, List, [], ◌∷◌, ◌++◌, length, map, take, set, get_or, slice_get, Some, None, refl, ap, sym, ◌∙◌, arith}
+use Rattle.std.proofs.lemmas.List.{map-set}
+use Rattle.std.proofs.Math.Seq.{take-append_seam}
+use Rattle.std.proofs.lemmas.Option.{slice_get-get_or}
 use Rattle.tdl_base.specs.Lists.{changed_at}
-use Rattle.tdl_base.specs.declared.kinds.Kind.{Kind}
-use Rattle.tdl_base.specs.declared.kinds.Kind.TheVariants.{Long}
-use Rattle.tdl_base.specs.Numbers.{narrowed}
-use Rattle.tdl_stack.specs.declared.instr.Code.{Code}
-use Rattle.tdl_verify.specs.Turns.{arguments}
 
--- the first argument takes the first kind
-arguments-head : (f : Code → ℤ) (kinds : List Kind) (i : ℕ) (code : Code) (codes : List Code) →
-    arguments f (drop i kinds) (code ∷ codes) ≡ narrowed (get_or kinds i Long) (f code)
-    ∷ arguments f (drop (suc i) kinds) codes
-arguments-head f [] zero code codes = refl
-arguments-head f [] (suc i) code codes = refl
-arguments-head f (k ∷ ks) zero code codes = refl
-arguments-head f (k ∷ ks) (suc i) code codes = arguments-head f ks i code codes
+-- a place within a list has its item
+pub there : {A : Type 0} (xs : List A) (k : ℕ) (x : A) → k < length xs → x ≡ get_or xs k x → slice_get xs k ≡ Some x
+there xs k x lt is = slice_get-get_or xs k x lt ∙ ap (λ z. Some z) (sym is)
 
--- one more argument
-pub arguments-more : (f : Code → ℤ) (kinds : List Kind) (codes : List Code) (i : ℕ) (old new whole : List ℤ)
-    (code : Code) (v : ℤ) → i < length codes → code ≡ get_or codes i code →
-    v ≡ narrowed (get_or kinds i Long) (f code) → new ≡ old ++ v ∷ [] →
-    old ++ arguments f (drop i kinds) (drop i codes) ≡ whole →
-    new ++ arguments f (drop (i + 1) kinds) (drop (i + 1) codes) ≡ whole
-arguments-more f kinds codes i old new whole code v lt ec ev en inv =
-    let cut : drop i codes ≡ code ∷ drop (suc i) codes =
-    drop-cons codes i code lt ∙ ap (λ c. c ∷ drop (suc i) codes) (sym ec) in
-    let step : arguments f (drop i kinds) (drop i codes) ≡ v ∷ arguments f (drop (suc i) kinds) (drop (suc i) codes) =
-    ap (λ cs. arguments f (drop i kinds) cs) cut ∙ arguments-head f kinds i code (drop (suc i) codes)
-    ∙ ap (λ w. w ∷ arguments f (drop (suc i) kinds) (drop (suc i) codes)) (sym ev) in
-    let goal : new ++ arguments f (drop (suc i) kinds) (drop (suc i) codes) ≡ whole =
-    ap (λ z. z ++ arguments f (drop (suc i) kinds) (drop (suc i) codes)) en
-    ∙ append_assoc old (v ∷ []) (arguments f (drop (suc i) kinds) (drop (suc i) codes))
-    ∙ ap (λ z. old ++ z) (sym step) ∙ inv in
-    rw add-one goal
+-- a place past the end has none
+pub none-past : {A : Type 0} (xs : List A) (k : ℕ) → length xs ≤ k → slice_get xs k ≡ None
+none-past [] k le = refl
+none-past (x ∷ xs) zero le = absurd (omega arith)
+none-past (x ∷ xs) (suc k) le = none-past xs k (omega arith)
+
+-- what is made of an item stands in its place
+pub mapped-there : {A B : Type 0} (f : A → B) (xs : List A) (k : ℕ) (x : A) → slice_get xs k ≡ Some x →
+    slice_get (map f xs) k ≡ Some (f x)
+mapped-there f [] k x e = absurd cc
+mapped-there f (y ∷ ys) zero x e = let same : y ≡ x = cc in ap (λ z. Some (f z)) same
+mapped-there f (y ∷ ys) (suc k) x e = mapped-there f ys k x e
+
+-- what a slice of a whole list leaves of it
+pub written-back : {A : Type 0} (n : ℕ) (xs ys : List A) → n ≡ length xs → take n (xs ++ ys) ≡ xs
+written-back n xs ys e = ap (λ k. take k (xs ++ ys)) e ∙ take-append_seam xs ys
+
+-- an item that is put in its own place
+pub set-same : {A : Type 0} (xs : List A) (k : ℕ) (x : A) → slice_get xs k ≡ Some x → set xs k x ≡ xs
+set-same [] k x e = absurd cc
+set-same (y ∷ ys) zero x e = let same : y ≡ x = cc in ap (λ z. z ∷ ys) (sym same)
+set-same (y ∷ ys) (suc k) x e = ap (λ z. y ∷ z) (set-same ys k x e)
+
+-- what is made of the items stays, where it stays of the one that is put
+pub mapped-kept : {A B : Type 0} (f : A → B) (xs : List A) (k : ℕ) (x y : A) → slice_get xs k ≡ Some x → f y ≡ f x →
+    map f (set xs k y) ≡ map f xs
+mapped-kept f xs k x y e same =
+    map-set f xs k y ∙ ap (λ z. set (map f xs) k z) same ∙ set-same (map f xs) k (f x) (mapped-there f xs k x e)
 
 -- an item that is put in its place, whatever was there
 pub changed_at-put : {A : Type 0} (k : ℕ) (v : A) (xs : List A) → changed_at k (λ _. v) xs ≡ set xs k v
@@ -53,3 +56,10 @@ pub changed_at-past : {A : Type 0} (k : ℕ) (f : A → A) (xs : List A) → len
 changed_at-past k f [] le = refl
 changed_at-past zero f (x ∷ xs) le = absurd (omega arith)
 changed_at-past (suc k) f (x ∷ xs) le = ap (λ z. x ∷ z) (changed_at-past k f xs (omega arith))
+
+-- what is made of the items changes with the one that is put
+pub mapped-changed : {A B : Type 0} (f : A → B) (g : B → B) (xs : List A) (k : ℕ) (x y : A) → slice_get xs k ≡ Some x →
+    f y ≡ g (f x) → map f (set xs k y) ≡ changed_at k g (map f xs)
+mapped-changed f g xs k x y e now =
+    map-set f xs k y ∙ ap (λ z. set (map f xs) k z) now
+    ∙ sym (changed_at-set k g (f x) (map f xs) (mapped-there f xs k x e))

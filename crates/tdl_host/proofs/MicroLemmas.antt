@@ -1,10 +1,10 @@
--- Microseconds in which no task works.
-use Rattle.std.proofs.Common.{◌≡◌, ℕ, List, [], ◌∷◌, ◌≤◌, ◌++◌, length, take, drop, refl, ap, ap₂, sym, ◌∙◌}
-use Rattle.std.proofs.lemmas.List.{append-nil, take_all, drop_all}
+-- The tasks of a module after a microsecond.
+use Rattle.std.proofs.Common.{◌≡◌, List, [], ◌∷◌, map, refl, ap, ap₂}
 use Rattle.tdl_image.specs.declared.hosted.TaskTable.{TaskTable}
 use Rattle.tdl_image.specs.declared.hosted.ImageWindow.{ImageWindow}
 use Rattle.tdl_verify.specs.States.{Slot, TaskNow}
 use Rattle.tdl_verify.specs.Micros.{slot_run, tasks_run}
+use Rattle.tdl_host.specs.Hosts.{TaskView, states_of, tables_of, worked_in}
 
 slot_run-idle : (t : TaskTable) (slot : Slot) → slot_run [] t slot ≡ slot
 slot_run-idle t Slot.Idle = refl
@@ -19,14 +19,15 @@ tasks_run-idle (t ∷ ts) (u ∷ us) =
     ap₂ (λ (slot : Slot) (rest : List TaskNow). record u { slot = slot } ∷ rest) (slot_run-idle t u.slot)
     (tasks_run-idle ts us)
 
-pub tasks_run-none : (windows : List ImageWindow) (ts : List TaskTable) → tasks_run windows ts [] ≡ []
-tasks_run-none windows [] = refl
-tasks_run-none windows (t ∷ ts) = refl
+-- tasks that worked in a window, each with its table
+pub worked-states : (w : ImageWindow) (us : List TaskView) →
+    states_of (map (worked_in w) us) ≡ tasks_run (w ∷ []) (tables_of us) (states_of us)
+worked-states w [] = refl
+worked-states w (u ∷ us) =
+    ap (λ (rest : List TaskNow). record u.now { slot = slot_run (w ∷ []) u.table u.now.slot } ∷ rest)
+    (worked-states w us)
 
--- once each task was run, nothing is left
-pub all-run : (windows : List ImageWindow) (tables : List TaskTable) (tasks : List TaskNow) (i : ℕ) →
-    length tasks ≤ i → tasks ≡ take i tasks ++ tasks_run windows (drop i tables) (drop i tasks)
-all-run windows tables tasks i le =
-    sym (ap₂ (λ (front rest : List TaskNow). front
-    ++ tasks_run windows (drop i tables) rest) (take_all i tasks le) (drop_all i tasks le)
-    ∙ ap (λ (rest : List TaskNow). tasks ++ rest) (tasks_run-none windows (drop i tables)) ∙ append-nil tasks)
+-- they keep their tables
+pub worked-tables : (w : ImageWindow) (us : List TaskView) → tables_of (map (worked_in w) us) ≡ tables_of us
+worked-tables w [] = refl
+worked-tables w (u ∷ us) = ap (λ (rest : List TaskTable). u.table ∷ rest) (worked-tables w us)

@@ -1,75 +1,119 @@
 -- A state of which one task has changed.
-use Rattle.std.proofs.Common.{◌≡◌, ℕ, ◌<◌, ◌≤◌, ℤ, List, length, get_or, set, slice_get, Some, false, refl, ap, sym, subst, ◌∙◌}
-use Rattle.std.proofs.lemmas.List.{get_or-set_same, length-set}
-use Rattle.std.proofs.lemmas.Option.{slice_get-get_or}
+use Rattle.std.proofs.Common.{◌≡◌, ℕ, ◌≤◌, ℤ, List, [], ◌∷◌, length, map, set, slice_get, Some, None, Result, Ok, Err, OnOk, false, refl, ap, sym, subst, ◌∙◌, arith}
+use Rattle.std.proofs.lemmas.List.{length-map}
 use Rattle.tdl_base.specs.Lists.{changed_at}
 use Rattle.tdl_trace.specs.declared.why.Why.{Why}
-use Rattle.tdl_trace.specs.declared.why.Why.TheVariants as why
+use Rattle.tdl_image.specs.declared.hosted.TaskTable.{TaskTable}
+use Rattle.tdl_image.specs.declared.hosted.ReleaseEntry.{ReleaseEntry}
 use Rattle.tdl_node.specs.declared.machine.Stop.{Stop}
 use Rattle.tdl_node.specs.declared.machine.Stop.TheVariants as stop
 use Rattle.tdl_node.specs.Machines.{IsTrap, IsTrapOf}
-use Rattle.tdl_verify.specs.States.{Slot, TaskNow, HostNow}
-use Rattle.tdl_host.specs.Hosts.{slot_of, is_idle, with_job, IsCommitted, IsCommittedAt}
-use Rattle.tdl_host.proofs.ListSteps.{changed_at-set, changed_at-past}
+use Rattle.tdl_verify.specs.States.{Slot, TaskNow, HostNow, task_first}
+use Rattle.tdl_host.specs.Hosts.{TaskView, HostedNow, first_view, tables_of, states_of, slot_of, with_job, IsCommitted, IsCommittedAt, IsStartedAt, IsBusyAt, is_idle}
+use Rattle.tdl_host.proofs.ListSteps.{none-past, mapped-there, mapped-changed}
 
--- a place within a list has its item
-pub there : {A : Type 0} (xs : List A) (k : ℕ) (x : A) → k < length xs → x ≡ get_or xs k x → slice_get xs k ≡ Some x
-there xs k x lt is = slice_get-get_or xs k x lt ∙ ap (λ z. Some z) (sym is)
+-- the table of a task stands in its place
+pub table-there : (us : List TaskView) (t : ℕ) (u : TaskView) → slice_get us t ≡ Some u →
+    slice_get (tables_of us) t ≡ Some u.table
+table-there us t u at = mapped-there (λ (v : TaskView). v.table) us t u at
 
--- the state with another task t
-abbrev pub with_task : ℕ → TaskNow → HostNow → HostNow
-with_task t u s = record s { tasks = set s.tasks t u }
+-- so does its state
+pub state-there : (us : List TaskView) (t : ℕ) (u : TaskView) → slice_get us t ≡ Some u →
+    slice_get (states_of us) t ≡ Some u.now
+state-there us t u at = mapped-there (λ (v : TaskView). v.now) us t u at
 
-pub slot-at : (v s : HostNow) (t : ℕ) (u : TaskNow) → v ≡ s → t < length v.tasks → u ≡ get_or v.tasks t u →
-    slot_of s t ≡ u.slot
-slot-at v s t u e lt is = subst (λ (z : HostNow). slot_of z t ≡ u.slot) e (rw (there v.tasks t u lt is) refl)
+-- a task that is there has the module's table
+pub own-table : (us : List TaskView) (ts : List TaskTable) (t : ℕ) (u : TaskView) (table : TaskTable) →
+    tables_of us ≡ ts → slice_get us t ≡ Some u → slice_get ts t ≡ Some table → table ≡ u.table
+own-table us ts t u table e at is =
+    let same : Some table ≡ Some u.table =
+    sym is ∙ ap (λ (z : List TaskTable). slice_get z t) (sym e) ∙ table-there us t u at in
+    cc
 
-pub committed-at : (v s : HostNow) (t : ℕ) (u u' : TaskNow) → v ≡ s → t < length v.tasks → u ≡ get_or v.tasks t u →
-    IsCommitted u u' → IsCommittedAt t s (with_task t u' v)
-committed-at v s t u u' e lt is done =
-    let put : set v.tasks t u'
-    ≡ changed_at t (λ (u : TaskNow). record u { outputs = done.outputs; slot = Slot.Idle }) v.tasks =
-    ap (λ z. set v.tasks t z) done.now
-    ∙ sym (changed_at-set t (λ (u : TaskNow). record u { outputs = done.outputs; slot = Slot.Idle }) u v.tasks
-    (there v.tasks t u lt is)) in
-    let long : t < length (set v.tasks t u') = rw (length-set v.tasks t u') lt in
-    let found : slice_get (set v.tasks t u') t ≡ Some u' =
-    slice_get-get_or (set v.tasks t u') t u' long ∙ ap (λ z. Some z) (get_or-set_same v.tasks t u' u' lt) in
-    record {
+-- a task that is not there has no table
+pub no-table : (us : List TaskView) (ts : List TaskTable) (t : ℕ) → tables_of us ≡ ts → length us ≤ t →
+    slice_get ts t ≡ None
+no-table us ts t e le =
+    ap (λ (z : List TaskTable). slice_get z t) (sym e)
+    ∙ none-past (tables_of us) t
+    (let n : length (tables_of us) ≡ length us = length-map us (λ (u : TaskView). u.table) in omega (arith, n))
+
+-- the slot of a task that is there
+pub slot-at : (s : HostNow) (us : List TaskView) (t : ℕ) (u : TaskView) → s.tasks ≡ states_of us →
+    slice_get us t ≡ Some u → slot_of s t ≡ u.now.slot
+slot-at s us t u e at = rw (e, state-there us t u at) refl
+
+-- the state whose task is committed
+pub committed-at : (v s : HostNow) (us : List TaskView) (t : ℕ) (u u' : TaskView) → v ≡ s → v.tasks ≡ states_of us →
+    slice_get us t ≡ Some u → slice_get (set us t u') t ≡ Some u' → IsCommitted u.now u'.now →
+    IsCommittedAt t s (record v { tasks = states_of (set us t u') })
+committed-at v s us t u u' e tasks at at' done =
+    subst (λ (z : HostNow). IsCommittedAt t z (record v { tasks = states_of (set us t u') })) e (record {
       mode = done.mode;
       invocation = done.invocation;
       outputs = done.outputs;
-      was = slot-at v s t u e lt is ∙ done.was;
-      now = ap (λ (ts : List TaskNow). record v { tasks = ts }) put
-          ∙ ap (λ (z : HostNow). record z
-          { tasks = changed_at t (λ (u : TaskNow). record u { outputs = done.outputs; slot = Slot.Idle }) z.tasks }) e;
-      shown = rw found (ap (λ (z : TaskNow). z.outputs) done.now);
-    }
+      was = slot-at v us t u tasks at ∙ done.was;
+      now = ap (λ (ts : List TaskNow). record v { tasks = ts })
+          (mapped-changed (λ (x : TaskView). x.now)
+          (λ (x : TaskNow). record x { outputs = done.outputs; slot = Slot.Idle }) us t u u' at done.now
+          ∙ ap (λ (ts : List TaskNow). changed_at t
+          (λ (x : TaskNow). record x { outputs = done.outputs; slot = Slot.Idle }) ts) (sym tasks));
+      shown = rw (state-there (set us t u') t u' at') (ap (λ (z : TaskNow). z.outputs) done.now);
+    })
 
-pub started-past : (v s : HostNow) (t mode invocation left : ℕ) (cells : List ℤ) → v ≡ s → length v.tasks ≤ t →
-    s ≡ record s { tasks = changed_at t (with_job mode invocation left cells) s.tasks }
-started-past v s t mode invocation left cells e le =
-    subst (λ (z : HostNow). z ≡ record z { tasks = changed_at t (with_job mode invocation left cells) z.tasks }) e
-    (ap (λ (ts : List TaskNow). record v { tasks = ts })
-    (sym (changed_at-past t (with_job mode invocation left cells) v.tasks le)))
+-- the state whose task has a job released
+pub started-at : (v s : HostNow) (us : List TaskView) (t : ℕ) (r : ReleaseEntry) (inputs : List ℤ) (table : TaskTable)
+    (u u' : TaskView) → v ≡ s → v.tasks ≡ states_of us → slice_get us t ≡ Some u → table ≡ u.table →
+    u.now.slot ≡ Slot.Idle → u'.now ≡ with_job u.table r inputs u.now →
+    IsStartedAt t r inputs table s (record v { tasks = states_of (set us t u') })
+started-at v s us t r inputs table u u' e tasks at own idle now =
+    subst (λ (z : HostNow). IsStartedAt t r inputs table z (record v { tasks = states_of (set us t u') })) e
+    (subst (λ (k : TaskTable). IsStartedAt t r inputs k v (record v { tasks = states_of (set us t u') })) (sym own)
+    (record {
+      was = u.now;
+      here = rw (tasks, state-there us t u at) refl;
+      idle = idle;
+      now = ap (λ (ts : List TaskNow). record v { tasks = ts })
+          (mapped-changed (λ (x : TaskView). x.now) (with_job u.table r inputs) us t u u' at now
+          ∙ ap (λ (ts : List TaskNow). changed_at t (with_job u.table r inputs) ts) (sym tasks));
+    }))
 
-pub started-at : (v s : HostNow) (t mode invocation left : ℕ) (cells : List ℤ) (u u' : TaskNow) → v ≡ s →
-    t < length v.tasks → u ≡ get_or v.tasks t u → u' ≡ with_job mode invocation left cells u →
-    with_task t u' v ≡ record s { tasks = changed_at t (with_job mode invocation left cells) s.tasks }
-started-at v s t mode invocation left cells u u' e lt is now =
-    ap (λ (ts : List TaskNow). record v { tasks = ts }) (ap (λ z. set v.tasks t z) now
-    ∙ sym (changed_at-set t (with_job mode invocation left cells) u v.tasks (there v.tasks t u lt is)))
-    ∙ ap (λ (z : HostNow). record z { tasks = changed_at t (with_job mode invocation left cells) z.tasks }) e
+-- a task that is there, with its job
+pub busy-at : (s : HostedNow) (us : List TaskView) (t : ℕ) (u : TaskView) → s.host.tasks ≡ tables_of us →
+    s.now.tasks ≡ states_of us → slice_get us t ≡ Some u → is_idle u.now.slot ≡ false → IsBusyAt t s
+busy-at s us t u tables tasks at busy = record {
+  table = u.table;
+  of_table = rw (tables, table-there us t u at) refl;
+  was = u.now;
+  here = rw (tasks, state-there us t u at) refl;
+  busy = busy;
+}
 
-pub busy-at : (v s : HostNow) (t : ℕ) (u : TaskNow) → v ≡ s → t < length v.tasks → u ≡ get_or v.tasks t u →
-    is_idle u.slot ≡ false → is_idle (slot_of s t) ≡ false
-busy-at v s t u e lt is busy = ap (λ z. is_idle z) (slot-at v s t u e lt is) ∙ busy
+-- tasks before their first jobs have their tables
+pub first-tables : (ts : List TaskTable) → tables_of (map first_view ts) ≡ ts
+first-tables [] = refl
+first-tables (t ∷ ts) = ap (λ (rest : List TaskTable). t ∷ rest) (first-tables ts)
 
-pub busy-trap : (v s : HostNow) (t : ℕ) (u : TaskNow) (e : Stop) → v ≡ s → t < length v.tasks →
-    u ≡ get_or v.tasks t u → IsTrapOf why.Busy (is_idle u.slot ≡ false) e →
-    IsTrapOf why.Busy (is_idle (slot_of s t) ≡ false) e
-busy-trap v s t u (stop.Trapped other) e lt is h = (h.0, busy-at v s t u e lt is h.1)
-busy-trap v s t u stop.NoMemory e lt is h = tt
+-- their states are those before the first job
+pub first-states : (ts : List TaskTable) → states_of (map first_view ts) ≡ map task_first ts
+first-states [] = refl
+first-states (t ∷ ts) = ap (λ (rest : List TaskNow). task_first t ∷ rest) (first-states ts)
+
+-- a state in which one thing has changed, seen from outside
+pub changed-now : {A : Type 0} (v s : HostedNow) → v ≡ s → (put : HostNow → A → HostNow) (a : A) (g : HostedNow → A) →
+    a ≡ g v → put v.now a ≡ put s.now (g s)
+changed-now v s e put a g is =
+    subst (λ (z : HostedNow). put v.now a ≡ put z.now (g z)) e (ap (λ x. put v.now x) is)
+
+-- what follows from two facts of an Ok
+pub both-ok : {T E P Q R : Type 0} (r : Result T E) → (P → Q → R) → OnOk r P → OnOk r Q → OnOk r R
+both-ok (Ok x) f p q = f p q
+both-ok (Err e) f p q = tt
+
+-- what follows from what a trap says
+pub trap-weaker : (reason : Why) (P Q : Type 0) → (P → Q) → (e : Stop) → IsTrapOf reason P e → IsTrapOf reason Q e
+trap-weaker reason P Q f (stop.Trapped other) h = (h.0, f h.1)
+trap-weaker reason P Q f stop.NoMemory h = tt
 
 -- a trap of a known reason
 pub trap-of : (reason : Why) (P : Type 0) (says : Why → Type 0) (e : Stop) → IsTrapOf reason P e → (P → says reason) →

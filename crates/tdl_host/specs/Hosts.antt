@@ -1,5 +1,5 @@
 -- One hosted module as its machine holds it, and the words that the machine's calls use.
-use Rattle.std.specs.Prelude.{◌≡◌, ◌≤◌, All, ℕ, suc, ◌++◌, ℤ, Bool, true, false, ◌==◌, ◌&&◌, nat_le, if◌then◌else◌, List, [], ◌∷◌, filter, Option, Some, None, option_map, option_and_then, unwrap_or, slice_get, find}
+use Rattle.std.specs.Prelude.{◌≡◌, ◌<◌, ◌≤◌, length, map, All, ℕ, suc, ◌++◌, ℤ, pos, replicate, Bool, true, false, ◌==◌, ◌&&◌, nat_le, if◌then◌else◌, List, [], ◌∷◌, filter, Option, Some, None, option_map, option_and_then, unwrap_or, slice_get, find}
 use Rattle.tdl_base.specs.declared.numbers.TheConstants.{FIRST_NODE}
 use Rattle.tdl_base.specs.Lists.{changed_at}
 use Rattle.tdl_trace.specs.Shown.{Shown}
@@ -10,12 +10,18 @@ use Rattle.tdl_stack.specs.Running.{Outer}
 use Rattle.tdl_ecode.specs.declared.instr.EInstr.{EInstr}
 use Rattle.tdl_image.specs.declared.hosted.Hosted.{Hosted}
 use Rattle.tdl_image.specs.declared.hosted.TaskTable.{TaskTable}
-use Rattle.tdl_verify.specs.States.{Slot, TaskNow, Trigger, HostNow, Part, Times, outer_on, value_on}
+use Rattle.tdl_verify.specs.States.{Slot, TaskNow, Trigger, HostNow, Part, Times, outer_on, value_on, task_first}
+use Rattle.tdl_verify.specs.Micros.{slot_run}
+use Rattle.tdl_image.specs.declared.hosted.ImageWindow.{ImageWindow}
 use Rattle.tdl_verify.specs.Turns.{Acted, Spot, Turned, host_acts, phase_of, turn}
 use Rattle.tdl_verify.specs.Runs.{is_plain}
 use Rattle.tdl_node.specs.Machines.{plain_turned}
+use Rattle.tdl_task.specs.Jobs.{TaskCells, narrowed_each, outputs_of_cells}
+use Rattle.tdl_task.specs.declared.slot.Slot.{Slot as JobSlot}
+use Rattle.tdl_task.specs.declared.slot.Slot.TheVariants as job
+use Rattle.tdl_image.specs.declared.hosted.ReleaseEntry.{ReleaseEntry}
+use Rattle.tdl_host.specs.CheckedCodes.{IsCheckedTask, cells_of_table}
 use Rattle.tdl_host.specs.declared.act.Next.{Next}
-use Rattle.tdl_host.specs.declared.job.JobSlot.{JobSlot}
 use Rattle.tdl_host.specs.declared.state.Alarm.{Alarm}
 use Rattle.tdl_host.specs.declared.step.Place.{Place}
 use Rattle.tdl_host.specs.declared.step.Standing.{Standing}
@@ -23,11 +29,54 @@ use Rattle.tdl_host.specs.declared.step.Stepped.{Stepped}
 
 -- ---- the state
 
--- the slot of a task as the run's definition has it
-abbrev pub slot_now : JobSlot → Slot
-slot_now JobSlot.Idle = Slot.Idle
-slot_now (JobSlot.Ready mode invocation left cells) = Slot.Ready mode invocation left cells
-slot_now (JobSlot.Done mode invocation outputs) = Slot.Done mode invocation outputs
+-- the slot of a task as the run's definition has it; idle while its job is in hand
+abbrev pub slot_now : Option JobSlot → Slot
+slot_now None = Slot.Idle
+slot_now (Some (job.Idle i)) = Slot.Idle
+slot_now (Some (job.Ready r)) = Slot.Ready r.job.mode.0 r.job.invocation r.remaining r.held.values
+slot_now (Some (job.Done d)) = Slot.Done d.job.mode.0 d.job.invocation (outputs_of_cells d.held)
+
+-- a slot of these cells, whose job, where it is ready, has some time left
+abbrev pub IsSlotOf : TaskCells → JobSlot → Type 0
+IsSlotOf cells (job.Idle i) = i ≡ cells
+IsSlotOf cells (job.Ready r) = (r.held.task ≡ cells) × (0 < r.remaining)
+IsSlotOf cells (job.Done d) = d.held.task ≡ cells
+
+-- such a slot is there
+abbrev pub IsSeated : TaskCells → Option JobSlot → Type 0
+IsSeated cells None = ⊥
+IsSeated cells (Some slot) = IsSlotOf cells slot
+
+-- the outputs and the slot of a task are those of its table
+pub record FitsTable (t : TaskTable) (outputs : List ℤ) (slot : Option JobSlot) : Type 0 where
+  pub checked : IsCheckedTask t
+  pub count : length outputs ≡ length t.outputs
+  pub seated : IsSeated (cells_of_table t) slot
+
+-- a task: its table beside its state
+pub record TaskView : Type 0 where
+  pub table : TaskTable
+  pub now : TaskNow
+
+-- the tables of tasks, and their states
+abbrev pub tables_of : List TaskView → List TaskTable
+tables_of us = map (λ u. u.table) us
+
+abbrev pub states_of : List TaskView → List TaskNow
+states_of us = map (λ u. u.now) us
+
+-- a task before its first job
+abbrev pub first_view : TaskTable → TaskView
+first_view t = record { table = t; now = task_first t }
+
+-- a task after a microsecond in which one window is live
+abbrev pub worked_in : ImageWindow → TaskView → TaskView
+worked_in w u = record { table = u.table; now = record u.now { slot = slot_run (w ∷ []) u.table u.now.slot } }
+
+-- a module: its tables beside its state
+pub record HostedNow : Type 0 where
+  pub host : Hosted
+  pub now : HostNow
 
 -- the trigger as the run's definition has it
 abbrev pub trigger_now : Alarm → Trigger
@@ -77,10 +126,29 @@ pub record IsCommittedAt (t : ℕ) (old new : HostNow) : Type 0 where
       { tasks = changed_at t (λ (u : TaskNow). record u { outputs = outputs; slot = Slot.Idle }) old.tasks }
   pub shown : task_outputs new t ≡ outputs
 
--- a task with one more job, which is ready for so long
-abbrev pub with_job : ℕ → ℕ → ℕ → List ℤ → TaskNow → TaskNow
-with_job mode invocation left cells u =
-    record u { slot = Slot.Ready mode invocation left cells; released = suc u.released }
+-- a task of this table with one more job, which is released with these inputs
+abbrev pub with_job : TaskTable → ReleaseEntry → List ℤ → TaskNow → TaskNow
+with_job t r inputs u = record u {
+  slot = Slot.Ready r.mode r.invocation t.worst
+      (narrowed_each t.inputs inputs ++ u.outputs ++ replicate (length t.locals) (pos 0));
+  released = suc u.released;
+}
+
+-- a job of task t, which had none, is released with these inputs
+pub record IsStartedAt (t : ℕ) (r : ReleaseEntry) (inputs : List ℤ) (table : TaskTable) (old new : HostNow) : Type 0
+  where
+    pub was : TaskNow
+    pub here : slice_get old.tasks t ≡ Some was
+    pub idle : was.slot ≡ Slot.Idle
+    pub now : new ≡ record old { tasks = changed_at t (with_job table r inputs) old.tasks }
+
+-- task t is there, and has a job
+pub record IsBusyAt (t : ℕ) (s : HostedNow) : Type 0 where
+  pub table : TaskTable
+  pub of_table : slice_get s.host.tasks t ≡ Some table
+  pub was : TaskNow
+  pub here : slice_get s.now.tasks t ≡ Some was
+  pub busy : is_idle was.slot ≡ false
 
 -- ---- what its codes read, and how long its jobs take
 

@@ -1,20 +1,19 @@
-ghost use Rattle.std.specs.Prelude.{◌≡◌, All, ◌++◌, ◌+◌, ◌-◌, ◌<◌, ◌^◌, ℕ, suc, List, IfOk, OnOk, IfErr, option_map, unwrap_or, slice_get, replicate, length, pos};
+ghost use Rattle.std.specs.Prelude.{◌≡◌, ◌++◌, ◌+◌, ◌-◌, ◌<◌, ◌^◌, ℕ, suc, List, IfOk, OnOk, IfErr, option_map, unwrap_or, slice_get, length};
 ghost use Rattle.tdl_base.specs.declared.numbers.TheConstants.{FIRST_NODE};
 ghost use Rattle.tdl_base.specs.declared.kinds.Kind.TheVariants.{Long};
 ghost use Rattle.tdl_base.specs.Numbers.{is_true};
 ghost use Rattle.tdl_trace.specs.Shown.{Shown};
 ghost use Rattle.tdl_verify.specs.States.{Part};
-ghost use Rattle.tdl_verify.specs.Turns.{Acted, output_rows, no_code, arguments};
+ghost use Rattle.tdl_verify.specs.Turns.{Acted, output_rows, no_code};
 ghost use Rattle.tdl_node.specs.Machines.{IsTrap};
-ghost use Rattle.tdl_host.specs.CheckedCodes.{IsCheckedCode, HasCheckedCodes};
-ghost use Rattle.tdl_host.specs.Hosts.{HasReleased, acts, value_at, task_outputs, went};
+ghost use Rattle.tdl_host.specs.CheckedCodes.{HasRoom};
+ghost use Rattle.tdl_host.specs.Hosts.{HasReleased, acts, value_at, went};
 
-use crate::seen::{Scene, arguments, value};
+use crate::seen::{Scene, put_values, value};
 use crate::state::HostState;
-use std::alloc::Global;
-use tdl_base::{FIRST_NODE, Kind, Listed, ModeId, ModuleId, NoMemory, TaskId, Us, narrow};
+use tdl_base::{FIRST_NODE, Kind, ModeId, ModuleId, NoMemory, TaskId, Us, narrow};
 use tdl_ecode::EInstr;
-use tdl_image::{CallEntry, Hosted, ReleaseEntry, TaskTable};
+use tdl_image::Hosted;
 use tdl_node::Stop;
 use tdl_trace::{Row, Rows};
 
@@ -56,25 +55,21 @@ fn put_outputs(
 
 /// Ends the job of a task: commits a done one, and puts its outputs.
 fn end(scene: Scene, state: &mut HostState, task: u16, rows: &mut Rows) -> Result<(), Stop>
+    ensures host { state.new.host ≡ state.old.host }
     ensures ok { OnOk result
-        ((pc : ℕ) → acts scene.entry.hosted.now scene.entry.senses.now scene.entry.at rows.old
-        state.old pc (EInstr.End task)
-        ≡ Acted.On (Part.Host scene.entry.hosted.now state.new) rows.new (suc pc)) }
+        ((pc : ℕ) → acts state.old.host scene.entry.senses.now scene.entry.at rows.old
+        state.old.now pc (EInstr.End task)
+        ≡ Acted.On (Part.Host state.old.host state.new.now) rows.new (suc pc)) }
     ensures trapped { IfErr result
         (IsTrap (λ reason. (pc : ℕ) →
-        acts scene.entry.hosted.now scene.entry.senses.now scene.entry.at rows.old state.old pc
+        acts state.old.host scene.entry.senses.now scene.entry.at rows.old state.old.now pc
         (EInstr.End task) ≡ Acted.Stop reason)) }
 {
     if !state.end(task)? {
         return Ok(());
     }
-    put_outputs(
-        scene.at,
-        scene.hosted.number,
-        task,
-        state.outputs(task),
-        rows,
-    )?;
+    let owner = state.hosted().number;
+    put_outputs(scene.at, owner, task, state.outputs(task), rows)?;
     Ok(())
 }
 
@@ -90,99 +85,69 @@ fn actuator_kind(hosted: &Hosted, actuator: u16) -> Kind
 
 /// Calls a driver: its actuator takes the number of its expression.
 fn call(scene: Scene, state: &mut HostState, driver: u16, rows: &mut Rows) -> Result<(), NoMemory>
-    requires { HasCheckedCodes scene.hosted.now }
-    ensures { OnOk result
-        ((pc : ℕ) → acts scene.entry.hosted.now scene.entry.senses.now scene.entry.at rows.old
-        state.old pc (EInstr.Call driver)
-        ≡ Acted.On (Part.Host scene.entry.hosted.now state.new) rows.new (suc pc)) }
+    ensures host { state.new.host ≡ state.old.host }
+    ensures ok { OnOk result
+        ((pc : ℕ) → acts state.old.host scene.entry.senses.now scene.entry.at rows.old
+        state.old.now pc (EInstr.Call driver)
+        ≡ Acted.On (Part.Host state.old.host state.new.now) rows.new (suc pc)) }
 {
-    let Some(driver) = scene.hosted.drivers.get(usize::from(driver)) else {
+    let hosted = state.hosted();
+    let Some(driver) = hosted.drivers.get(usize::from(driver)) else {
         return Ok(());
     };
     let exact = value(scene, state, &driver.value);
-    let kept = narrow(actuator_kind(scene.hosted, driver.actuator), exact);
+    let kept = narrow(actuator_kind(hosted, driver.actuator), exact);
     state.update(driver.actuator, kept);
     rows.push(Row::Act {
         at: Us(u64::from(scene.at)),
         node: FIRST_NODE,
-        module: scene.hosted.number,
+        module: hosted.number,
         actuator: driver.actuator,
         value: kept,
     })?;
     Ok(())
 }
 
-/// The cells that a job begins with: its arguments, its task's outputs, and zeros.
-fn first_cells(
-    alloc: Global,
+/// Releases a job: it starts, where the slot of its task is idle. The numbers are room for its
+/// arguments.
+fn release(
     scene: Scene,
-    state: &HostState,
-    call: &CallEntry,
-    table: &TaskTable,
-) -> Result<Listed<i64>, NoMemory>
-    requires { All IsCheckedCode call.now.args }
-    ensures { IfOk result
-        (λ cells. cells
-        ≡ arguments (value_at scene.entry.hosted.now state.now scene.entry.senses.now
-        scene.entry.at) table.now.inputs call.now.args ++ task_outputs state.now call.now.task
-        ++ replicate (length table.now.locals) (pos 0)) }
-{
-    let mut cells = arguments(
-        alloc,
-        scene,
-        state,
-        table.inputs.as_slice(),
-        call.args.as_slice(),
-    )?;
-    cells.extend_from_slice(state.outputs(call.task))?;
-    let zeros = vec![in alloc; 0i64; table.locals.len()]?;
-    cells.extend_from_slice(&zeros)?;
-    Ok(Listed::from_vec(cells))
-}
-
-/// Releases a job: it starts, where the slot of its task is idle.
-fn release(alloc: Global, scene: Scene, state: &mut HostState, release: u16) -> Result<(), Stop>
-    requires codes { HasCheckedCodes scene.hosted.now }
-    requires released { HasReleased (2 ^ 64 - 2) state.old }
+    state: &mut HostState,
+    release: u16,
+    numbers: &mut [i64],
+) -> Result<(), Stop>
+    requires room { HasRoom state.old.host (length numbers.old) }
+    requires released { HasReleased (2 ^ 64 - 2) state.old.now }
+    ensures host { state.new.host ≡ state.old.host }
+    ensures room { length numbers.new ≡ length numbers.old }
     ensures ok { OnOk result
         ((rows : List Shown) (pc : ℕ) →
-        acts scene.entry.hosted.now scene.entry.senses.now scene.entry.at rows state.old pc
+        acts state.old.host scene.entry.senses.now scene.entry.at rows state.old.now pc
         (EInstr.Release release)
-        ≡ Acted.On (Part.Host scene.entry.hosted.now state.new) rows (suc pc)) }
+        ≡ Acted.On (Part.Host state.old.host state.new.now) rows (suc pc)) }
     ensures trapped { IfErr result
         (IsTrap (λ reason. (rows : List Shown) (pc : ℕ) →
-        acts scene.entry.hosted.now scene.entry.senses.now scene.entry.at rows state.old pc
+        acts state.old.host scene.entry.senses.now scene.entry.at rows state.old.now pc
         (EInstr.Release release) ≡ Acted.Stop reason)) }
 {
-    let Some(release) = scene.hosted.releases.get(usize::from(release)) else {
+    let hosted = state.hosted();
+    let Some(release) = hosted.releases.get(usize::from(release)) else {
         return Ok(());
     };
-    let Some(call) = scene.hosted.calls.get(usize::from(release.call)) else {
+    let Some(call) = hosted.calls.get(usize::from(release.call)) else {
         return Ok(());
     };
-    let Some(table) = scene.hosted.tasks.get(usize::from(call.task)) else {
-        return Ok(());
-    };
-    if !state.has_task(call.task) {
-        return Ok(());
-    }
-    let cells = first_cells(alloc, scene, state, call, table)?;
-    state.start(
-        call.task,
-        release.mode,
-        release.invocation,
-        table.worst,
-        cells,
-    )?;
-    Ok(())
+    put_values(scene, state, call.args.as_slice(), numbers);
+    state.start(call.task, *release, &numbers[..call.args.len()])
 }
 
 /// Enters a mode, and puts a row where the module was not in it.
 fn enter(scene: Scene, state: &mut HostState, mode: u16, rows: &mut Rows) -> Result<(), NoMemory>
-    ensures { OnOk result
-        ((pc : ℕ) → acts scene.entry.hosted.now scene.entry.senses.now scene.entry.at rows.old
-        state.old pc (EInstr.Mode mode)
-        ≡ Acted.On (Part.Host scene.entry.hosted.now state.new) rows.new (suc pc)) }
+    ensures host { state.new.host ≡ state.old.host }
+    ensures ok { OnOk result
+        ((pc : ℕ) → acts state.old.host scene.entry.senses.now scene.entry.at rows.old
+        state.old.now pc (EInstr.Mode mode)
+        ≡ Acted.On (Part.Host state.old.host state.new.now) rows.new (suc pc)) }
 {
     let already = state.is_in(mode);
     state.enter(mode, scene.at);
@@ -192,7 +157,7 @@ fn enter(scene: Scene, state: &mut HostState, mode: u16, rows: &mut Rows) -> Res
     rows.push(Row::Mode {
         at: Us(u64::from(scene.at)),
         node: FIRST_NODE,
-        module: scene.hosted.number,
+        module: state.hosted().number,
         mode: ModeId(mode),
     })?;
     Ok(())
@@ -200,12 +165,11 @@ fn enter(scene: Scene, state: &mut HostState, mode: u16, rows: &mut Rows) -> Res
 
 /// Whether a guard holds; none where there is no such guard.
 fn holds(scene: Scene, state: &HostState, guard: u16) -> bool
-    requires { HasCheckedCodes scene.hosted.now }
     ensures { result
-        ≡ is_true (value_at scene.entry.hosted.now state.now scene.entry.senses.now scene.entry.at
-        (unwrap_or (slice_get scene.entry.hosted.now.guards guard) no_code)) }
+        ≡ is_true (value_at state.now.host state.now.now scene.entry.senses.now scene.entry.at
+        (unwrap_or (slice_get state.now.host.guards guard) no_code)) }
 {
-    let Some(guard) = scene.hosted.guards.get(usize::from(guard)) else {
+    let Some(guard) = state.hosted().guards.get(usize::from(guard)) else {
         return false;
     };
     value(scene, state, guard) != 0
@@ -214,10 +178,9 @@ fn holds(scene: Scene, state: &HostState, guard: u16) -> bool
 /// Goes on at the next index, or at the other one where the guard does not hold.
 fn branch(scene: Scene, state: &HostState, pc: usize, guard: u16, otherwise: u32) -> Next
     requires room { pc + 1 < 2 ^ 64 }
-    requires codes { HasCheckedCodes scene.hosted.now }
     ensures { (rows : List Shown) →
-        acts scene.entry.hosted.now scene.entry.senses.now scene.entry.at rows state.now pc
-        (EInstr.If guard otherwise) ≡ went result scene.entry.hosted.now state.now rows }
+        acts state.now.host scene.entry.senses.now scene.entry.at rows state.now.now pc
+        (EInstr.If guard otherwise) ≡ went result state.now.host state.now.now rows }
 {
     if !holds(scene, state, guard) {
         return Next::On(otherwise as usize);
@@ -225,24 +188,26 @@ fn branch(scene: Scene, state: &HostState, pc: usize, guard: u16, otherwise: u32
     Next::On(pc + 1)
 }
 
-/// Does an instruction that stands at an index of a block.
+/// Does an instruction that stands at an index of a block. The numbers are room for arguments.
 pub fn act(
-    alloc: Global,
     scene: Scene,
     state: &mut HostState,
     pc: usize,
     instr: EInstr,
+    numbers: &mut [i64],
     rows: &mut Rows,
 ) -> Result<Next, Stop>
-    requires room { pc + 1 < 2 ^ 64 }
-    requires codes { HasCheckedCodes scene.hosted.now }
-    requires released { HasReleased (2 ^ 64 - 2) state.old }
+    requires place { pc + 1 < 2 ^ 64 }
+    requires room { HasRoom state.old.host (length numbers.old) }
+    requires released { HasReleased (2 ^ 64 - 2) state.old.now }
+    ensures host { state.new.host ≡ state.old.host }
+    ensures room { length numbers.new ≡ length numbers.old }
     ensures ok { IfOk result
-        (λ next. acts scene.entry.hosted.now scene.entry.senses.now scene.entry.at rows.old
-        state.old pc instr ≡ went next scene.entry.hosted.now state.new rows.new) }
+        (λ next. acts state.old.host scene.entry.senses.now scene.entry.at rows.old state.old.now
+        pc instr ≡ went next state.old.host state.new.now rows.new) }
     ensures trapped { IfErr result
-        (IsTrap (λ reason. acts scene.entry.hosted.now scene.entry.senses.now scene.entry.at
-        rows.old state.old pc instr ≡ Acted.Stop reason)) }
+        (IsTrap (λ reason. acts state.old.host scene.entry.senses.now scene.entry.at rows.old
+        state.old.now pc instr ≡ Acted.Stop reason)) }
 {
     match instr {
         EInstr::Return => return Ok(Next::Over),
@@ -251,7 +216,7 @@ pub fn act(
             return Ok(branch(scene, state, pc, guard, otherwise));
         }
         EInstr::Call(driver) => call(scene, state, driver, rows)?,
-        EInstr::Release(entry) => release(alloc, scene, state, entry)?,
+        EInstr::Release(entry) => release(scene, state, entry, numbers)?,
         EInstr::End(task) => end(scene, state, task, rows)?,
         EInstr::Mode(mode) => enter(scene, state, mode, rows)?,
         EInstr::Future(ahead, block) => {

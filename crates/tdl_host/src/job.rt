@@ -1,132 +1,67 @@
-ghost use Rattle.std.specs.Prelude.{◌≡◌, ◌∷◌, [], ◌++◌, length, map, take, drop, IfOk};
-ghost use Rattle.tdl_stack.specs.Running.{outputs_after};
-ghost use Rattle.tdl_verify.specs.Micros.{cells_of, worked, slot_run};
-ghost use Rattle.tdl_host.specs.CheckedCodes.{IsCheckedCode};
-ghost use Rattle.tdl_host.specs.Hosts.{slot_now};
+ghost use Rattle.std.specs.Prelude.{◌≡◌, ◌<◌, ◌∷◌, [], Some, None, IsSome};
+ghost use Rattle.tdl_verify.specs.Micros.{worked, slot_run};
+ghost use Rattle.tdl_host.specs.CheckedCodes.{IsCheckedTask, cells_of_table};
+ghost use Rattle.tdl_host.specs.Hosts.{IsSlotOf, slot_now};
 
-use std::alloc::Global;
-use tdl_base::{Kind, Listed, NoMemory};
-use tdl_exec::{Cells, run_code};
+use std::mem;
 use tdl_image::{ImageWindow, TaskTable};
+use tdl_task::{Ran, Ready, Slot};
 
-/// Where the job of a task stands.
-#[derive(Debug, Drop)]
-pub enum JobSlot {
-    /// There is no job.
-    Idle,
-    /// The job runs for so many microseconds more.
-    Ready {
-        mode: u16,
-        invocation: u16,
-        left: u32,
-        cells: Listed<i64>,
-    },
-    /// The job is done, and its outputs wait for their commit.
-    Done {
-        mode: u16,
-        invocation: u16,
-        outputs: Listed<i64>,
-    },
+/// Takes a slot in hand, to put the next one in its place.
+pub fn take(slot: &mut Option<Slot>) -> Slot
+    requires { IsSome slot.old }
+    ensures was { slot.old ≡ Some result }
+    ensures left { slot.new ≡ None }
+{
+    let Some(slot) = slot.take() else {
+        unreachable!();
+    };
+    slot
 }
 
-/// The kinds of a job's cells: those of its inputs, its outputs and its locals.
-fn kinds_of(alloc: Global, table: &TaskTable) -> Result<Vec<Kind>, NoMemory>
-    ensures { IfOk result
-        (λ kinds. kinds.items ≡ table.now.inputs ++ map (λ o. o.kind) table.now.outputs
-        ++ table.now.locals) }
+/// Puts a slot in its place.
+pub fn put(place: &mut Option<Slot>, slot: Slot)
+    requires { place.old ≡ None }
+    ensures { place.new ≡ Some slot }
 {
-    let mut kinds = Vec::new(alloc);
-    kinds.extend_from_slice(table.inputs.as_slice())?;
-    for output in table.outputs.as_slice() {
-        kinds.push(output.kind)?;
+    match mem::replace(place, Some(slot)) {
+        None => {}
+        Some(_) => unreachable!(),
     }
-    kinds.extend_from_slice(table.locals.as_slice())?;
-    Ok(kinds)
 }
 
-fn cut(alloc: Global, cells: &[i64], from: usize, count: usize) -> Result<Vec<i64>, NoMemory>
-    ensures { IfOk result (λ part. part.items ≡ take count (drop from cells.now)) }
+// A job after a microsecond in which it works: at its last one its body is run, and it is done.
+fn worked(ready: Ready, table: &TaskTable) -> Slot
+    requires checked { IsCheckedTask table.now }
+    requires cells { ready.held.task ≡ cells_of_table table.now }
+    requires left { 0 < ready.remaining }
+    ensures slot { IsSlotOf (cells_of_table table.now) result }
+    ensures now { slot_now (Some result)
+        ≡ worked table.now ready.job.mode.0 ready.job.invocation ready.remaining
+        ready.held.values }
 {
-    let part = cells.iter().skip(from).take(count).copied().collect(alloc)?;
-    Ok(part)
-}
-
-/// The outputs of a job whose body is run on its cells.
-fn finish(alloc: Global, table: &TaskTable, numbers: Listed<i64>) -> Result<Listed<i64>, NoMemory>
-    requires { IsCheckedCode table.now.body }
-    ensures { IfOk result
-        (λ outputs. outputs
-        ≡ outputs_after (length table.now.inputs) (length table.now.outputs) table.now.body.instrs
-        (cells_of table.now numbers)) }
-{
-    let kinds = kinds_of(alloc, table)?;
-    let mut cells = Cells::new(Listed::from_vec(kinds), numbers);
-    run_code(&table.body, &mut cells);
-    let outputs = cut(
-        alloc,
-        cells.values(),
-        table.inputs.len(),
-        table.outputs.len(),
-    )?;
-    Ok(Listed::from_vec(outputs))
-}
-
-/// A job after a microsecond in which it works: at its last one its body is run, and it is done.
-fn worked(
-    alloc: Global,
-    table: &TaskTable,
-    mode: u16,
-    invocation: u16,
-    left: u32,
-    cells: Listed<i64>,
-) -> Result<JobSlot, NoMemory>
-    requires { IsCheckedCode table.now.body }
-    ensures { IfOk result (λ next. slot_now next ≡ worked table.now mode invocation left cells) }
-{
-    if left != 1 {
-        return Ok(JobSlot::Ready {
-            mode,
-            invocation,
-            left: left.saturating_sub(1),
-            cells,
-        });
+    match ready.run(1, &table.body) {
+        Ran::Still(ready) => Slot::Ready(ready),
+        Ran::Done(done) => Slot::Done(done),
     }
-    let outputs = finish(alloc, table, cells)?;
-    Ok(JobSlot::Done {
-        mode,
-        invocation,
-        outputs,
-    })
 }
 
 /// A slot after a microsecond in which one window is live: the window's job works.
-pub fn slot_after(
-    alloc: Global,
-    slot: JobSlot,
-    table: &TaskTable,
-    window: &ImageWindow,
-) -> Result<JobSlot, NoMemory>
-    requires { IsCheckedCode table.now.body }
-    ensures { IfOk result
-        (λ next. slot_now next ≡ slot_run (window.now ∷ []) table.now (slot_now slot)) }
+pub fn slot_after(slot: Slot, table: &TaskTable, window: &ImageWindow) -> Slot
+    requires checked { IsCheckedTask table.now }
+    requires slot { IsSlotOf (cells_of_table table.now) slot }
+    ensures slot { IsSlotOf (cells_of_table table.now) result }
+    ensures now { slot_now (Some result)
+        ≡ slot_run (window.now ∷ []) table.now (slot_now (Some slot)) }
 {
     match slot {
-        JobSlot::Ready {
-            mode,
-            invocation,
-            left,
-            cells,
-        } => {
-            if window.mode != mode || window.invocation != invocation {
-                return Ok(JobSlot::Ready {
-                    mode,
-                    invocation,
-                    left,
-                    cells,
-                });
+        Slot::Ready(ready) => {
+            let job = ready.job();
+            if window.mode != job.mode.0 || window.invocation != job.invocation {
+                return Slot::Ready(ready);
             }
-            worked(alloc, table, mode, invocation, left, cells)
+            worked(ready, table)
         }
-        other => Ok(other),
+        other => other,
     }
 }

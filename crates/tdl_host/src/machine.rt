@@ -1,6 +1,6 @@
-ghost use Rattle.std.specs.Prelude.{◌≡◌, ◌∷◌, [], IfOk};
+ghost use Rattle.std.specs.Prelude.{◌≡◌, ◌≤◌, ◌∷◌, [], All, length, IfOk};
 ghost use Rattle.tdl_scen.specs.declared.entries.Scenario.{Scenario};
-ghost use Rattle.tdl_verify.specs.States.{Part};
+ghost use Rattle.tdl_image.specs.declared.hosted.CallEntry.{CallEntry};
 ghost use Rattle.tdl_verify.specs.Texts.{times_in};
 ghost use Rattle.tdl_node.specs.Machines.{IsOneHost, IsOffBus, IsBegun};
 ghost use Rattle.tdl_host.specs.CheckedCodes.{HasCheckedModules};
@@ -13,28 +13,51 @@ use crate::turn::run_turn;
 use std::alloc::Global;
 use std::marker::Model;
 use tdl_base::NoMemory;
-use tdl_image::{Bundle, Hosted};
+use tdl_image::{Bundle, CallEntry};
 use tdl_node::{Machine, Stop};
 use tdl_scen::Sense;
 use tdl_trace::Rows;
 
-/// A node that hosts one module: the module's tables, whose codes are lawful, and its state.
-#[derive(Debug, Drop)]
+/// A node that hosts one module, whose codes are lawful: the module's tables and state, and room
+/// for the arguments of each of its calls.
+#[derive(Drop)]
 pub struct HostMachine<'a> {
-    hosted: &'a Hosted,
     declared: u32,
-    state: HostState,
+    state: HostState<'a>,
+    numbers: Vec<i64>,
 }
 
 impl<'a> Model for HostMachine<'a> {
-    ghost use Rattle.tdl_host.specs.CheckedCodes.{HasCheckedCodes};
+    ghost use Rattle.std.specs.Prelude.{length};
+    ghost use Rattle.tdl_host.specs.CheckedCodes.{HasRoom};
     ghost use Rattle.tdl_host.specs.Hosts.{HostView};
 
     ghost Value = { HostView };
 
-    ghost view = { λ m. record { host = m.hosted.now; declared = m.declared; now = m.state } };
+    ghost view = { λ m. record { host = m.state.host; declared = m.declared; now = m.state.now } };
 
-    ghost invariant = { λ m. HasCheckedCodes m.hosted.now };
+    ghost invariant = { λ m. HasRoom m.state.host (length m.numbers.items) };
+}
+
+fn greater(a: usize, b: usize) -> usize
+    ensures left { a ≤ result }
+    ensures right { b ≤ result }
+{
+    if a < b {
+        return b;
+    }
+    a
+}
+
+// The greatest number of arguments of a call.
+fn most_arguments(calls: &[CallEntry]) -> usize
+    ensures { All (λ (call : CallEntry). length call.args ≤ result) calls.now }
+{
+    let mut most = 0;
+    for call in calls {
+        most = greater(most, call.args.len());
+    }
+    most
 }
 
 impl<'a> HostMachine<'a> {
@@ -58,10 +81,12 @@ impl<'a> HostMachine<'a> {
         let Some(hosted) = image.hosted.get(0) else {
             unreachable!();
         };
+        let state = HostState::first(alloc, hosted)?;
+        let numbers = vec![in alloc; 0i64; most_arguments(hosted.calls.as_slice())]?;
         Ok(HostMachine {
-            hosted,
             declared: image.declared,
-            state: HostState::first(alloc, hosted)?,
+            state,
+            numbers,
         })
     }
 }
@@ -81,20 +106,25 @@ impl Machine for HostMachine<'_> {
 
     fn turn(
         &mut self,
-        alloc: Global,
+        _alloc: Global,
         senses: &[Sense],
         at: u64,
         rows: &mut Rows,
     ) -> Result<(), Stop> {
         let scene = Scene {
-            hosted: self.hosted,
             senses,
             at: at as u32,
         };
-        run_turn(alloc, scene, self.declared, &mut self.state, rows)
+        run_turn(
+            scene,
+            self.declared,
+            &mut self.state,
+            &mut self.numbers,
+            rows,
+        )
     }
 
-    fn micro(&mut self, alloc: Global, at: u64) -> Result<(), Stop> {
-        run_micro(alloc, self.hosted, &mut self.state, at as u32)
+    fn micro(&mut self, _alloc: Global, at: u64) -> Result<(), Stop> {
+        run_micro(&mut self.state, at as u32)
     }
 }

@@ -1,8 +1,10 @@
 //! A module of one job, with a guard, a driver and two modes.
-ghost use Rattle.std.specs.Prelude.{◌≡◌, false, All, IfOk};
+ghost use Rattle.std.specs.Prelude.{◌≡◌, false, All, length, IfOk};
+ghost use Rattle.tdl_stack.specs.Lawful.{IsLawful};
+ghost use Rattle.tdl_stack.specs.Lawful.{shape_of};
 ghost use Rattle.tdl_image.specs.declared.hosted.ImageWindow.{ImageWindow};
 ghost use Rattle.tdl_node.specs.Machines.{IsOneHost};
-ghost use Rattle.tdl_host.specs.CheckedCodes.{IsCheckedCode, HasCheckedCodes, HasCheckedModules};
+ghost use Rattle.tdl_host.specs.CheckedCodes.{IsCheckedCode, IsCheckedTask, HasCheckedCodes, HasCheckedModules};
 
 use std::alloc::Global;
 use tdl_base::{BinOp, Kind, Listed, ModuleId, NoMemory, Place, PortKey, TaskId, Text};
@@ -25,17 +27,11 @@ fn list<T: Copy>(alloc: Global, items: &[T]) -> Result<Listed<T>, NoMemory>
     Ok(Listed::from_vec(items))
 }
 
-// A code that passes its check as one of the module; one that does not pass is no memory.
-fn code(alloc: Global, expression: bool, instrs: &[Instr]) -> Result<Code, NoMemory>
-    ensures { IfOk result IsCheckedCode }
+// A code that passes its check under a shape; one that does not pass is no memory.
+fn code(alloc: Global, shape: &Shape, instrs: &[Instr]) -> Result<Code, NoMemory>
+    ensures { IfOk result (λ code. IsLawful code.instrs (shape_of shape.now)) }
 {
-    let shape = Shape {
-        cells: 3,
-        sensors: 1,
-        keys: &[OUTPUT],
-        expression,
-    };
-    if !check_code(instrs, &shape) {
+    if !check_code(instrs, shape) {
         return Err(NoMemory);
     }
     Ok(Code {
@@ -43,7 +39,9 @@ fn code(alloc: Global, expression: bool, instrs: &[Instr]) -> Result<Code, NoMem
     })
 }
 
-fn port(alloc: Global, kind: Kind) -> Result<Listed<Initial>, NoMemory> {
+fn port(alloc: Global, kind: Kind) -> Result<Listed<Initial>, NoMemory>
+    ensures { IfOk result (λ ports. length ports ≡ 1) }
+{
     let port = Initial {
         kind,
         name: Text::from_str(alloc, "p")?,
@@ -91,8 +89,15 @@ fn blocks(alloc: Global) -> Result<Listed<Block>, NoMemory> {
 }
 
 fn table(alloc: Global) -> Result<TaskTable, NoMemory>
-    ensures { IfOk result (λ table. IsCheckedCode table.body) }
+    ensures checked { IfOk result IsCheckedTask }
+    ensures inputs { IfOk result (λ table. length table.inputs ≡ 1) }
 {
+    let shape = Shape {
+        cells: 3,
+        sensors: 0,
+        keys: &[],
+        expression: false,
+    };
     let sum = [
         Instr::Load(Place::Cell(1)),
         Instr::Load(Place::Cell(0)),
@@ -105,14 +110,20 @@ fn table(alloc: Global) -> Result<TaskTable, NoMemory>
         inputs: Listed::only(alloc, Kind::Int)?,
         outputs: port(alloc, Kind::Int)?,
         locals: Listed::only(alloc, Kind::Int)?,
-        body: code(alloc, false, &sum)?,
+        body: code(alloc, &shape, &sum)?,
     })
 }
 
 fn load(alloc: Global, place: Place) -> Result<Code, NoMemory>
     ensures { IfOk result IsCheckedCode }
 {
-    code(alloc, true, &[Instr::Load(place)])
+    let shape = Shape {
+        cells: 0,
+        sensors: 1,
+        keys: &[OUTPUT],
+        expression: true,
+    };
+    code(alloc, &shape, &[Instr::Load(place)])
 }
 
 /// A module whose job has a window of so many microseconds from 1 on, an actuator that takes the

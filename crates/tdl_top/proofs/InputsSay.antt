@@ -1,11 +1,10 @@
 -- What the inputs of a call say, from what their loads say.
-use Rattle.std.proofs.Common.{◌≡◌, ◌∙◌, ℕ, List, subst, sym, arith, refl, inl, Option}
+use Rattle.std.proofs.Common.{◌≡◌, ◌∙◌, ℕ, List, [], ◌∷◌, length, get_or, subst, sym, ap, arith, refl, inl, Option, Some, None}
 use Rattle.std.specs.Prelude.{◌≢◌}
-use Rattle.tdl_base.specs.declared.limits.TheConstants.{SOURCE_BYTES, BUNDLE_BYTES}
+use Rattle.tdl_base.specs.declared.limits.TheConstants.{BUNDLE_BYTES}
 use Rattle.tdl_io.specs.Outside.{Held}
 use Rattle.tdl_io.specs.Told.{FilesTold}
 use Rattle.tdl_mode.specs.declared.program.Program.{Program}
-use Rattle.tdl_scan.specs.Tokens.{IsTokenFault}
 use Rattle.tdl_tree.specs.declared.declarations.Tree.{Tree}
 use Rattle.tdl_plain.specs.declared.form.Form.{Form}
 use Rattle.tdl_plain.specs.PlainSource.{IsPlainForm}
@@ -24,14 +23,13 @@ use Rattle.tdl_make.proofs.PlainRealises.{made}
 use Rattle.tdl_report.specs.declared.status.Status.{Status}
 use Rattle.tdl_report.specs.declared.status.Status.TheVariants.{Ok, LoadFailed, TooLong, BadToken, BadSyntax, SaveFailed, BadBundle, NoMemory, BadForm}
 use Rattle.tdl_words.specs.declared.words.Call.{Call}
-use Rattle.tdl_words.specs.declared.words.Call.TheVariants.{Compile, Run, Exec}
-use Rattle.tdl_words.specs.Words.{Words, word_at}
+use Rattle.tdl_words.specs.Words.{Words, word_at, source_count}
 use Rattle.tdl_report.specs.Calls.{FilesCall, OnlyLoads}
-use Rattle.tdl_top.specs.Sources.{HasSyntaxFault, IsSentence, HasTree, SaysProgram}
-use Rattle.tdl_top.specs.Taken.{IsRead}
-use Rattle.tdl_top.specs.Inputs.{IsSourceOf, HasBundle, HasFirst, HasTokenFault, IsOutOfPlace, GivesNone, HasScenario, InputSays, IsAsked, IsRefused, IsOfSource}
-use Rattle.tdl_top.specs.Loads.{ScanSays, ParseSays, DecodeSays}
-use Rattle.tdl_top.proofs.OneSource.{tree_once}
+use Rattle.tdl_top.specs.Sources.{IsRead, SayProgram}
+use Rattle.tdl_top.specs.Taken.{AreRead, SayBundle}
+use Rattle.tdl_top.specs.Inputs.{HasBundle, HasScenario}
+use Rattle.tdl_top.specs.Refused.{InputSays, IsAsked, IsAskedFirst, IsRefused, FirstRefused, BundleRefused, IsFailedLoad}
+use Rattle.tdl_top.specs.Loads.{LoadSays, DecodeSays, SourcesSay, FormSays}
 use Rattle.tdl_top.proofs.Loading.{named_earlier}
 
 -- ---- the form of a source
@@ -45,98 +43,98 @@ runnable f lawful = record {
   initial = lawful.initial_to;
 }
 
--- a plain source gives its bundle
-plain_gives : (f : Form) (bytes : List ℕ) (tree : Tree) → HasTree bytes tree → IsPlainTree f tree →
-    IsSourceOf (plain_bundle f) bytes
-plain_gives f bytes tree spelled plain = record {
+-- ---- the trees of sources
+
+-- a list of one item
+single : (xs : List Tree) (x : Tree) → length xs ≡ 1 → x ≡ get_or xs 0 x → xs ≡ x ∷ []
+single [] x one is = absurd (omega (arith, one))
+single (y ∷ []) x one is = ap (λ (z : Tree). z ∷ []) (sym is)
+single (y ∷ z ∷ xs) x one is = absurd (omega (arith, one))
+
+-- a plain tree gives its bundle
+pub plain_says : (f : Form) (trees : List Tree) (tree : Tree) → length trees ≡ 1 → tree ≡ get_or trees 0 tree →
+    IsPlainTree f tree → SayBundle trees (plain_bundle f)
+plain_says f trees tree one is plain = record {
   program = program_of f;
-  says = record { tree = tree; spelled = spelled; says = record { form = f; plain = plain; is = refl } };
+  say = record { tree = tree; only = single trees tree one is; says = record { form = f; plain = plain; is = refl } };
   made = sym (made f (runnable f plain.lawful));
 }
 
--- so it does as the first file of a call that takes a source
-pub has_source : (holds : Option Held) (words : Words) (call : Call) (f : Form) (bytes : List ℕ) (tree : Tree) →
-    IsOfSource call → IsRead holds words 1 SOURCE_BYTES bytes → HasTree bytes tree → IsPlainTree f tree →
-    HasBundle holds words call (plain_bundle f)
-has_source holds words (Compile out) f bytes tree of read spelled plain =
-    record { bytes = bytes; read = read; gives = plain_gives f bytes tree spelled plain }
-has_source holds words (Run out scenario) f bytes tree of read spelled plain =
-    record { bytes = bytes; read = read; gives = plain_gives f bytes tree spelled plain }
-has_source holds words (Exec scenario) f bytes tree of read spelled plain = absurd of
+-- a tree that says no form says no program
+pub no_form : (trees : List Tree) (tree : Tree) → length trees ≡ 1 → tree ≡ get_or trees 0 tree →
+    ((f : Form) → IsPlainTree f tree → ⊥) → (p : Program) → SayProgram trees p → ⊥
+no_form trees tree one is none p say =
+    let same : say.tree ≡ tree =
+    ap (λ (ts : List Tree). get_or ts 0 tree) (sym say.only ∙ single trees tree one is) in
+    none say.says.form (subst (λ (t : Tree). IsPlainTree say.says.form t) same say.says.plain)
 
--- a source that has a tree and says no program gives no bundle
-no_source : (holds : Option Held) (words : Words) (call : Call) (bytes : List ℕ) → IsOfSource call →
-    IsRead holds words 1 SOURCE_BYTES bytes → IsSentence bytes → ((p : Program) → SaysProgram bytes p → ⊥) →
-    HasFirst holds words call (GivesNone call)
-no_source holds words (Compile out) bytes of read has none =
-    record { bytes = bytes; read = read; holds_of = (has, λ bundle gives. none gives.program gives.says) }
-no_source holds words (Run out scenario) bytes of read has none =
-    record { bytes = bytes; read = read; holds_of = (has, λ bundle gives. none gives.program gives.says) }
-no_source holds words (Exec scenario) bytes of read has none = absurd of
+-- other than one tree say no program
+pub not_one : (trees : List Tree) → length trees ≢ 1 → (p : Program) → SayProgram trees p → ⊥
+not_one trees other p say = other (ap length say.only)
 
--- a source whose tree says no form
-pub no_form : (files : FilesCall) (words : Words) (call : Call) (bytes : List ℕ) (tree : Tree) →
-    IsOfSource call → IsRead files.before.holds words 1 SOURCE_BYTES bytes →
-    HasTree bytes tree → ((f : Form) → IsPlainTree f tree → ⊥) → InputSays files words call (BadForm 1)
-no_form files words call bytes tree of read spelled none =
-    inl (
-      refl,
-      no_source files.before.holds words call bytes of read (record { tree = tree; spelled = spelled })
-          (λ p says. none says.says.form
-          (subst (λ (t : Tree). IsPlainTree says.says.form t) (tree_once bytes says.tree tree says.spelled spelled)
-          says.says.plain)),
-    )
+-- ---- sources
 
--- a source with a token out of place, as the first file of a call that takes a source
-out_of_place : (holds : Option Held) (words : Words) (call : Call) (bytes : List ℕ) (line col : ℕ) → IsOfSource call →
-    IsRead holds words 1 SOURCE_BYTES bytes → HasSyntaxFault bytes line col →
-    HasFirst holds words call (IsOutOfPlace call line col)
-out_of_place holds words (Compile out) bytes line col of read fault =
-    record { bytes = bytes; read = read; holds_of = fault }
-out_of_place holds words (Run out scenario) bytes line col of read fault =
-    record { bytes = bytes; read = read; holds_of = fault }
-out_of_place holds words (Exec scenario) bytes line col of read fault = absurd of
+-- what one of the sources is refused for, the inputs are refused for
+pub sources_input : (files : FilesCall) (words : Words) (call : Call) (n : ℕ) (s : Status) →
+    source_count call ≡ Some n → SourcesSay files words n s → InputSays files words call s
+sources_input files words call n (LoadFailed w) is says = (
+  inl (subst (λ (o : Option ℕ). IsAskedFirst files.before.holds words o w) (sym is) says.0),
+  says.1,
+)
+sources_input files words call n (TooLong w) is says =
+    inl (subst (λ (o : Option ℕ). FirstRefused files.before.holds words o (TooLong w)) (sym is) says)
+sources_input files words call n (BadToken w line col) is says =
+    inl (subst (λ (o : Option ℕ). FirstRefused files.before.holds words o (BadToken w line col)) (sym is) says)
+sources_input files words call n (BadSyntax w line col) is says =
+    inl (subst (λ (o : Option ℕ). FirstRefused files.before.holds words o (BadSyntax w line col)) (sym is) says)
+sources_input files words call n NoMemory is says = tt
+sources_input files words call n s is says = absurd says
 
--- what a parse refuses, the inputs are refused for
-pub parse_input : (files : FilesCall) (words : Words) (call : Call) (bytes : List ℕ) (s : Status) → IsOfSource call →
-    IsRead files.before.holds words 1 SOURCE_BYTES bytes → ParseSays bytes s → InputSays files words call s
-parse_input files words call bytes (BadSyntax w line col) of read says =
-    inl (says.0, out_of_place files.before.holds words call bytes line col of read says.1)
-parse_input files words call bytes NoMemory of read says = tt
-parse_input files words call bytes s of read says = absurd says
+-- so it is for what their trees are refused for
+pub form_input : (files : FilesCall) (words : Words) (call : Call) (n : ℕ) (trees : List Tree) (s : Status) →
+    source_count call ≡ Some n → AreRead files.before.holds words n trees → FormSays trees s →
+    InputSays files words call s
+form_input files words call n trees (BadForm w) is read says =
+    inl (subst (λ (o : Option ℕ). FirstRefused files.before.holds words o (BadForm w)) (sym is)
+    (says.0, record { trees = trees; read = read; other = says.1 }))
+form_input files words call n trees NoMemory is read says = tt
+form_input files words call n trees s is read says = absurd says
 
--- a source without tokens, as the first file of a call that takes a source
-no_tokens : (holds : Option Held) (words : Words) (call : Call) (bytes : List ℕ) (line col : ℕ) → IsOfSource call →
-    IsRead holds words 1 SOURCE_BYTES bytes → IsTokenFault bytes line col →
-    HasFirst holds words call (HasTokenFault call line col)
-no_tokens holds words (Compile out) bytes line col of read fault =
-    record { bytes = bytes; read = read; holds_of = fault }
-no_tokens holds words (Run out scenario) bytes line col of read fault =
-    record { bytes = bytes; read = read; holds_of = fault }
-no_tokens holds words (Exec scenario) bytes line col of read fault = absurd of
+-- ---- the file of a bundle
 
--- what a scan refuses, the inputs are refused for
-pub scan_input : (files : FilesCall) (words : Words) (call : Call) (bytes : List ℕ) (s : Status) → IsOfSource call →
-    IsRead files.before.holds words 1 SOURCE_BYTES bytes → ScanSays bytes s → InputSays files words call s
-scan_input files words call bytes (BadToken w line col) of read says =
-    inl (says.0, no_tokens files.before.holds words call bytes line col of read says.1)
-scan_input files words call bytes NoMemory of read says = tt
-scan_input files words call bytes s of read says = absurd says
+-- the first file is refused, of a call that names a bundle
+bundle_input : (holds : Option Held) (words : Words) (call : Call) (s : Status) → source_count call ≡ None →
+    BundleRefused holds words s → IsRefused holds words call s
+bundle_input holds words call s is says =
+    inl (subst (λ (o : Option ℕ). FirstRefused holds words o s) (sym is) says)
+
+-- what a load refuses, the inputs are refused for
+pub load_input : (files : FilesCall) (words : Words) (call : Call) (s : Status) → source_count call ≡ None →
+    LoadSays files words 1 BUNDLE_BYTES s → InputSays files words call s
+load_input files words call (LoadFailed w) is says = (
+  inl (subst (λ (o : Option ℕ). IsAskedFirst files.before.holds words o w) (sym is) says.0),
+  subst (λ (v : ℕ). IsFailedLoad files words v) (sym says.0) says.1,
+)
+load_input files words call (TooLong w) is says = bundle_input files.before.holds words call (TooLong w) is says
+load_input files words call NoMemory is says = tt
+load_input files words call s is says = absurd says
 
 -- what is refused of the bytes of a bundle, the inputs are refused for
-pub decode_input : (files : FilesCall) (words : Words) (w : ℕ) (bytes : List ℕ) (s : Status) →
-    IsRead files.before.holds words 1 BUNDLE_BYTES bytes → DecodeSays bytes s → InputSays files words (Exec w) s
-decode_input files words w bytes (BadBundle rule at) read says =
-    inl (record { bytes = bytes; read = read; holds_of = says })
-decode_input files words w bytes NoMemory read says = tt
-decode_input files words w bytes s read says = absurd says
+pub decode_input : (files : FilesCall) (words : Words) (call : Call) (bytes : List ℕ) (s : Status) →
+    source_count call ≡ None → IsRead files.before.holds (word_at words 1) BUNDLE_BYTES bytes → DecodeSays bytes s →
+    InputSays files words call s
+decode_input files words call bytes (BadBundle rule at) is read says =
+    bundle_input files.before.holds words call (BadBundle rule at) is
+    (record { bytes = bytes; read = read; holds_of = says })
+decode_input files words call bytes NoMemory is read says = tt
+decode_input files words call bytes s is read says = absurd says
 
 -- a lawful bundle that is not plain
-pub no_plain_bundle : (holds : Option Held) (words : Words) (w : ℕ) (bytes : List ℕ) (bundle : Bundle) →
-    IsRead holds words 1 BUNDLE_BYTES bytes → IsSpellable bundle → bytes ≡ bundle_bytes bundle → ¬ IsPlainBundle bundle →
-    IsRefused holds words (Exec w) (BadForm 1)
-no_plain_bundle holds words w bytes bundle read spellable spelled other =
-    inl (
+pub no_plain_bundle : (holds : Option Held) (words : Words) (call : Call) (bytes : List ℕ) (bundle : Bundle) →
+    source_count call ≡ None → IsRead holds (word_at words 1) BUNDLE_BYTES bytes → IsSpellable bundle →
+    bytes ≡ bundle_bytes bundle → ¬ IsPlainBundle bundle → IsRefused holds words call (BadForm 1)
+no_plain_bundle holds words call bytes bundle is read spellable spelled other =
+    bundle_input holds words call (BadForm 1) is (
       refl,
       record {
         bytes = bytes;
@@ -152,16 +150,23 @@ no_plain_bundle holds words w bytes bundle read spellable spelled other =
 
 -- ---- what loads leave
 
+-- a load that failed after loads
+pub failed_earlier : (a b c : FilesTold) (words : Words) (w : ℕ) → OnlyLoads (record { before = a; after = b }) →
+    IsFailedLoad (record { before = b; after = c }) words w → IsFailedLoad (record { before = a; after = c }) words w
+failed_earlier a b c words w loads failed = record {
+  rose = omega (arith, loads.later, failed.rose);
+  named = named_earlier a.failed_loads b.failed_loads c.failed_loads (word_at words w) loads.loads failed.named;
+}
+
 -- what a call of inputs says after loads it says from before them
 pub says_earlier : (a b c : FilesTold) (words : Words) (call : Call) (s : Status) →
     OnlyLoads (record { before = a; after = b }) →
     InputSays (record { before = b; after = c }) words call s →
     InputSays (record { before = a; after = c }) words call s
-says_earlier a b c words call (LoadFailed w) loads says = record {
-  asked = subst (λ (h : Option Held). IsAsked h words call w) loads.held says.asked;
-  rose = omega (arith, loads.later, says.rose);
-  named = named_earlier a.failed_loads b.failed_loads c.failed_loads (word_at words w) loads.loads says.named;
-}
+says_earlier a b c words call (LoadFailed w) loads says = (
+  subst (λ (h : Option Held). IsAsked h words call w) loads.held says.0,
+  failed_earlier a b c words w loads says.1,
+)
 says_earlier a b c words call (TooLong w) loads says =
     subst (λ (h : Option Held). IsRefused h words call (TooLong w)) loads.held says
 says_earlier a b c words call (BadToken w line col) loads says =

@@ -1,8 +1,12 @@
 pub mod OneSource
 pub mod Loading
 pub mod InputsSay
+pub mod ReadSource
+pub mod InTurn
 pub mod Saying
 pub mod Reported
+pub mod OnceSources
+pub mod OnceBundle
 pub mod Once
 pub mod Done
 pub mod Printing

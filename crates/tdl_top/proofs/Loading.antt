@@ -1,5 +1,5 @@
 -- What files tell after several loads.
-use Rattle.std.proofs.Common.{ℕ, List, arith, ◌∙◌, Option, Some, None}
+use Rattle.std.proofs.Common.{ℕ, List, arith, refl, ◌∙◌, Option, Some, None}
 use Rattle.tdl_io.specs.Outside.{Counts, HasNamedCause, NoCountFalls, NoCountChanges}
 use Rattle.tdl_io.specs.Told.{FilesTold}
 use Rattle.tdl_report.specs.Calls.{OnlyLoads}
@@ -33,6 +33,23 @@ falls_on None b c falls more = tt
 falls_on (Some a) None c falls more = absurd falls
 falls_on (Some a) (Some b) None falls more = absurd more
 falls_on (Some a) (Some b) (Some c) falls more = λ name. omega (arith, falls name, more name)
+
+-- no loads
+pub no_loads : (a : FilesTold) → OnlyLoads (record { before = a; after = a })
+no_loads a = record {
+  held = refl;
+  later = omega arith;
+  loads = falls_self a.failed_loads;
+  saves = same_self a.failed_saves;
+}
+  where
+    falls_self : (a : Option Counts) → NoCountFalls a a
+    falls_self None = tt
+    falls_self (Some a) = λ name. omega arith
+
+    same_self : (a : Option Counts) → NoCountChanges a a
+    same_self None = tt
+    same_self (Some a) = λ name. refl
 
 -- loads, and then more loads
 pub loads_then : (a b c : FilesTold) → OnlyLoads (record { before = a; after = b }) →

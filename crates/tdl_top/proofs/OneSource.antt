@@ -1,5 +1,5 @@
--- A source has one tree at most or one fault, and says one program at most.
-use Rattle.std.proofs.Common.{◌≡◌, ℕ, List, ap, sym, ◌∙◌, subst}
+-- A source has one tree at most or one fault, and trees say one program at most.
+use Rattle.std.proofs.Common.{◌≡◌, ℕ, List, get_or, ap, sym, ◌∙◌, subst}
 use Rattle.tdl_mode.specs.declared.program.Program.{Program}
 use Rattle.tdl_scan.specs.declared.token.Token.{Token}
 use Rattle.tdl_scan.proofs.Found.{one_list}
@@ -13,7 +13,7 @@ use Rattle.tdl_parse.proofs.Sentences.{one_tree}
 use Rattle.tdl_parse.proofs.SyntaxFaults.{sentence_no_fault}
 use Rattle.tdl_plain.specs.Says.{Says}
 use Rattle.tdl_plain.proofs.Unique.{says_unique}
-use Rattle.tdl_top.specs.Sources.{HasTree, HasSyntaxFault, IsSentence, SaysProgram}
+use Rattle.tdl_top.specs.Sources.{HasTree, HasSyntaxFault, SayProgram}
 
 -- two trees of one source are one
 pub tree_once : (source : List ℕ) (a b : Tree) → HasTree source a → HasTree source b → a ≡ b
@@ -22,11 +22,11 @@ tree_once source a b x y =
     (subst (λ (tokens : List Token). Sentence a (words_of source tokens))
     (one_list source x.tokens y.tokens x.scanned y.scanned) x.spelled) y.spelled
 
--- two programs of one source are one
-pub program_once : (source : List ℕ) (p q : Program) → SaysProgram source p → SaysProgram source q → p ≡ q
-program_once source p q x y =
-    says_unique p q y.tree
-    (subst (λ (tree : Tree). Says tree p) (tree_once source x.tree y.tree x.spelled y.spelled) x.says) y.says
+-- two programs of the same trees are one
+pub program_once : (trees : List Tree) (p q : Program) → SayProgram trees p → SayProgram trees q → p ≡ q
+program_once trees p q x y =
+    let same : x.tree ≡ y.tree = ap (λ (ts : List Tree). get_or ts 0 x.tree) (sym x.only ∙ y.only) in
+    says_unique p q y.tree (subst (λ (tree : Tree). Says tree p) same x.says) y.says
 
 -- two faults of one source's tokens stand at one place
 pub syntax_once : (source : List ℕ) (l c m d : ℕ) → HasSyntaxFault source l c → HasSyntaxFault source m d →
@@ -40,8 +40,8 @@ syntax_once source l c m d x y =
     (ap (λ (p : SourcePlace). p.line) place, ap (λ (p : SourcePlace). p.col) place)
 
 -- a source that has a tree has no such fault
-pub syntax_tree : (source : List ℕ) (l c : ℕ) → HasSyntaxFault source l c → IsSentence source → ⊥
-syntax_tree source l c x y =
-    let spelled = subst (λ (tokens : List Token). Sentence y.tree (words_of source tokens))
-    (one_list source y.spelled.tokens x.tokens y.spelled.scanned x.scanned) y.spelled.spelled in
-    sentence_no_fault (words_of source x.tokens) x.fault.rest y.tree spelled x.fault.fault
+pub syntax_tree : (source : List ℕ) (l c : ℕ) (tree : Tree) → HasSyntaxFault source l c → HasTree source tree → ⊥
+syntax_tree source l c tree x y =
+    let spelled = subst (λ (tokens : List Token). Sentence tree (words_of source tokens))
+    (one_list source y.tokens x.tokens y.scanned x.scanned) y.spelled in
+    sentence_no_fault (words_of source x.tokens) x.fault.rest tree spelled x.fault.fault

@@ -11,7 +11,8 @@ use Rattle.tdl_words.specs.declared.words.Call.{Call}
 use Rattle.tdl_words.specs.Words.{Words, word_at, out_word, scenario_word}
 use Rattle.tdl_report.specs.Calls.{FilesCall, SinkCall, OnlyLoads, IsUnchanged, IsSilent}
 use Rattle.tdl_top.specs.Loads.{SaveSays, PrintSays}
-use Rattle.tdl_top.specs.Inputs.{HasBundle, HasScenario, InputSays}
+use Rattle.tdl_top.specs.Inputs.{HasBundle, HasScenario}
+use Rattle.tdl_top.specs.Refused.{InputSays}
 use Rattle.tdl_top.specs.Answers.{HasAsked, Leaves, Prints, PrintsSome, IsPartDone, AnswerSaysOf}
 use Rattle.tdl_top.proofs.Loading.{named_same}
 

@@ -10,7 +10,8 @@ use Rattle.tdl_words.specs.Words.{Words, word_at, call_in, out_word, scenario_wo
 use Rattle.tdl_report.specs.declared.status.Status.{Status}
 use Rattle.tdl_report.specs.declared.status.Status.TheVariants.{Ok, Usage, WriteFailed, SaveFailed, NoMemory}
 use Rattle.tdl_report.specs.Calls.{FilesCall, SinkCall, IsUnchanged, IsSilent}
-use Rattle.tdl_top.specs.Inputs.{HasBundle, HasScenario, InputSays}
+use Rattle.tdl_top.specs.Inputs.{HasBundle, HasScenario}
+use Rattle.tdl_top.specs.Refused.{InputSays}
 
 -- ---- what a call leaves
 

@@ -6,10 +6,11 @@ use Rattle.tdl_report.specs.declared.status.Status.{Status}
 use Rattle.tdl_report.specs.declared.status.Status.TheVariants.{Ok, Usage, LoadFailed, WriteFailed, SaveFailed, NoMemory}
 use Rattle.tdl_words.specs.declared.words.Call.{Call}
 use Rattle.tdl_words.specs.Words.{Words, call_in, scenario_word}
-use Rattle.tdl_top.specs.Inputs.{HasBundle, IsRefused}
+use Rattle.tdl_top.specs.Inputs.{HasBundle}
+use Rattle.tdl_top.specs.Refused.{IsRefused}
 use Rattle.tdl_top.specs.Answers.{HasAsked}
 
--- the first file gives a bundle, and the scenario that is asked for is one of it
+-- the sources or the first file give a bundle, and the scenario that is asked for is one of it
 pub record HoldsInputs (held : Held) (words : Words) (call : Call) : Type 0 where
   pub bundle : Bundle
   pub has : HasBundle (Some held) words call bundle

@@ -1,8 +1,7 @@
 -- What a call that goes well has done, in the words of programs: the file that it saved realises the
 -- program, and what it printed is that file's run.
-use Rattle.std.specs.Prelude.{◌≡◌, ℕ, List, Option}
-use Rattle.tdl_base.specs.declared.limits.TheConstants.{BUNDLE_BYTES}
-use Rattle.tdl_io.specs.Outside.{Held, Saves, KeepsOthers, Appends}
+use Rattle.std.specs.Prelude.{◌≡◌, ℕ}
+use Rattle.tdl_io.specs.Outside.{Saves, KeepsOthers, Appends}
 use Rattle.tdl_mode.specs.declared.program.Program.{Program}
 use Rattle.tdl_deploy.specs.declared.placement.Placement.{Placement}
 use Rattle.tdl_deploy.specs.declared.schedule.Schedule.{Schedule}
@@ -15,45 +14,37 @@ use Rattle.tdl_image.specs.Spelling.{bundle_bytes}
 use Rattle.tdl_verify.specs.Runs.{IsAlive}
 use Rattle.tdl_verify.specs.Texts.{bundle_names, bundle_run, bundle_text}
 use Rattle.tdl_gen.specs.Realises.{Realises}
-use Rattle.tdl_make.specs.PlainBundle.{IsPlainBundle}
 use Rattle.tdl_words.specs.Words.{Words, word_at}
 use Rattle.tdl_report.specs.Calls.{FilesCall, SinkCall}
-use Rattle.tdl_top.specs.Taken.{IsRead, IsTaken}
-use Rattle.tdl_top.specs.Inputs.{HasScenario}
+use Rattle.tdl_top.specs.Taken.{IsTaken}
+use Rattle.tdl_top.specs.Inputs.{HasScenario, ReadsBundle}
 
--- the words and the files give the program, its placement and its schedule, and the file at word w is the spelling of a
--- bundle that realises them
-pub record SavesProgram (files : FilesCall) (words : Words) (w : ℕ) (program : Program) (placement : Placement)
+-- the n sources give the program, its placement and its schedule, and the file at word w is the spelling of a bundle
+-- that realises them
+pub record SavesProgram (files : FilesCall) (words : Words) (n w : ℕ) (program : Program) (placement : Placement)
     (schedule : Schedule) (bundle : Bundle) : Type 0 where
-  pub takes : IsTaken files.before.holds words program placement schedule
+  pub takes : IsTaken files.before.holds words n program placement schedule
   pub realises : Realises bundle program placement schedule
   pub saved : Saves files.after.holds (word_at words w) (bundle_bytes bundle)
   pub others : KeepsOthers files.before.holds files.after.holds (word_at words w)
 
--- the file at word 1 was read and is the spelling of this bundle, which is that of a plain program
-pub record ReadsBundle (holds : Option Held) (words : Words) (bundle : Bundle) : Type 0 where
-  pub bytes : List ℕ
-  pub read : IsRead holds words 1 BUNDLE_BYTES bytes
-  pub plain : IsPlainBundle bundle
-  pub spelled : bytes ≡ bundle_bytes bundle
-
--- `compile`: the program's bundle stands in the file at word w
-pub record Compiles (files : FilesCall) (words : Words) (w : ℕ) : Type 0 where
+-- `compile` of n sources: the program's bundle stands in the file at word w
+pub record Compiles (files : FilesCall) (words : Words) (n w : ℕ) : Type 0 where
   pub program : Program
   pub placement : Placement
   pub schedule : Schedule
   pub bundle : Bundle
-  pub saves : SavesProgram files words w program placement schedule bundle
+  pub saves : SavesProgram files words n w program placement schedule bundle
 
--- `run`: it stands in the file at word w, and the text of its run under the scenario at word v was
+-- `run` of n sources: it stands in the file at word w, and the text of its run under the scenario at word v was
 -- printed, which is the text of the program's logical rows
-pub record Runs (files : FilesCall) (words : Words) (out : SinkCall) (w v : ℕ) : Type 0 where
+pub record Runs (files : FilesCall) (words : Words) (out : SinkCall) (n w v : ℕ) : Type 0 where
   pub program : Program
   pub placement : Placement
   pub schedule : Schedule
   pub bundle : Bundle
   pub scenario : Scenario
-  pub saves : SavesProgram files words w program placement schedule bundle
+  pub saves : SavesProgram files words n w program placement schedule bundle
   pub read : HasScenario files.before.holds words (names_of program placement) v scenario
   pub printed : Appends out.before.contents out.after.contents (bundle_text bundle scenario)
   pub logical : bundle_text bundle scenario

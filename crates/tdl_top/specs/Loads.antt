@@ -1,33 +1,61 @@
 -- What one load, one reading of its bytes, one save and the printing of a call say.
-use Rattle.std.specs.Prelude.{◌≡◌, ℕ, List, ⊤}
+use Rattle.std.specs.Prelude.{◌≡◌, ℕ, List, ⊤, Some}
 use Rattle.tdl_io.specs.Outside.{Rose, HasNamedCause, IsLonger, AppendsPart}
+use Rattle.tdl_mode.specs.declared.program.Program.{Program}
 use Rattle.tdl_scan.specs.Tokens.{IsTokenFault}
+use Rattle.tdl_tree.specs.declared.declarations.Tree.{Tree}
 use Rattle.tdl_decode.specs.BundleGrammar.{IsBundleFault}
+use Rattle.tdl_words.specs.Words.{Words, word_at}
 use Rattle.tdl_report.specs.declared.status.Status.{Status}
-use Rattle.tdl_report.specs.declared.status.Status.TheVariants.{LoadFailed, TooLong, BadToken, BadSyntax, WriteFailed, SaveFailed, BadBundle, NoMemory}
-use Rattle.tdl_top.specs.Sources.{HasSyntaxFault}
+use Rattle.tdl_report.specs.declared.status.Status.TheVariants.{LoadFailed, TooLong, BadToken, BadSyntax, WriteFailed, SaveFailed, BadBundle, NoMemory, BadForm}
 use Rattle.tdl_report.specs.Calls.{FilesCall, SinkCall, IsUnchanged}
+use Rattle.tdl_top.specs.Sources.{HasSyntaxFault, SayProgram}
+use Rattle.tdl_top.specs.Refused.{SourceRefused, SourcesRefused, IsAskedFirst, IsFailedLoad}
 
--- what a refusal of a load of a name says, at this limit and word
-abbrev pub LoadSays : FilesCall → List ℕ → ℕ → ℕ → Status → Type 0
-LoadSays files name limit at (LoadFailed w) =
-    (w ≡ at) × Rose files.before.faults files.after.faults
-    × HasNamedCause files.before.failed_loads files.after.failed_loads name
-LoadSays files name limit at (TooLong w) = (w ≡ at) × IsLonger files.before.holds name limit
-LoadSays files name limit at NoMemory = ⊤
-LoadSays files name limit at status = ⊥
+-- what a refusal of a load of the file at word w says, at this limit
+abbrev pub LoadSays : FilesCall → Words → (w limit : ℕ) → Status → Type 0
+LoadSays files words w limit (LoadFailed v) = (v ≡ w) × IsFailedLoad files words w
+LoadSays files words w limit (TooLong v) = (v ≡ w) × IsLonger files.before.holds (word_at words w) limit
+LoadSays files words w limit NoMemory = ⊤
+LoadSays files words w limit status = ⊥
 
--- what a refusal of the scan of a source says
-abbrev pub ScanSays : List ℕ → Status → Type 0
-ScanSays bytes (BadToken w line col) = (w ≡ 1) × IsTokenFault bytes line col
-ScanSays bytes NoMemory = ⊤
-ScanSays bytes status = ⊥
+-- what a refusal of the scan of the source at word w says
+abbrev pub ScanSays : (w : ℕ) → List ℕ → Status → Type 0
+ScanSays w bytes (BadToken v line col) = (v ≡ w) × IsTokenFault bytes line col
+ScanSays w bytes NoMemory = ⊤
+ScanSays w bytes status = ⊥
 
--- what a refusal of the tokens of a source says
-abbrev pub ParseSays : List ℕ → Status → Type 0
-ParseSays bytes (BadSyntax w line col) = (w ≡ 1) × HasSyntaxFault bytes line col
-ParseSays bytes NoMemory = ⊤
-ParseSays bytes status = ⊥
+-- what a refusal of its tokens says
+abbrev pub ParseSays : (w : ℕ) → List ℕ → Status → Type 0
+ParseSays w bytes (BadSyntax v line col) = (v ≡ w) × HasSyntaxFault bytes line col
+ParseSays w bytes NoMemory = ⊤
+ParseSays w bytes status = ⊥
+
+-- what a refusal of that source says, where so many bytes are left for it and those after it
+abbrev pub SourceSays : FilesCall → Words → (w left : ℕ) → Status → Type 0
+SourceSays files words w left (LoadFailed v) = (v ≡ w) × IsFailedLoad files words w
+SourceSays files words w left (TooLong v) = SourceRefused files.before.holds (TooLong v) (word_at words w) left w
+SourceSays files words w left (BadToken v line col) =
+    SourceRefused files.before.holds (BadToken v line col) (word_at words w) left w
+SourceSays files words w left (BadSyntax v line col) =
+    SourceRefused files.before.holds (BadSyntax v line col) (word_at words w) left w
+SourceSays files words w left NoMemory = ⊤
+SourceSays files words w left status = ⊥
+
+-- what a refusal of one of the n sources from word 1 on says
+abbrev pub SourcesSay : FilesCall → Words → (n : ℕ) → Status → Type 0
+SourcesSay files words n (LoadFailed v) = IsAskedFirst files.before.holds words (Some n) v × IsFailedLoad files words v
+SourcesSay files words n (TooLong v) = SourcesRefused files.before.holds words n (TooLong v)
+SourcesSay files words n (BadToken v line col) = SourcesRefused files.before.holds words n (BadToken v line col)
+SourcesSay files words n (BadSyntax v line col) = SourcesRefused files.before.holds words n (BadSyntax v line col)
+SourcesSay files words n NoMemory = ⊤
+SourcesSay files words n status = ⊥
+
+-- what a refusal of the trees of all sources says
+abbrev pub FormSays : List Tree → Status → Type 0
+FormSays trees (BadForm w) = (w ≡ 1) × ((program : Program) → SayProgram trees program → ⊥)
+FormSays trees NoMemory = ⊤
+FormSays trees status = ⊥
 
 -- what a refusal of the bytes of a bundle says
 abbrev pub DecodeSays : List ℕ → Status → Type 0

@@ -1,7 +1,7 @@
 -- What the words and the files give: the program, its placement and its schedule, and the bundle of the three.
-use Rattle.std.specs.Prelude.{◌≡◌, ◌≤◌, ◌<◌, ℕ, List, length, Option, All}
-use Rattle.tdl_base.specs.declared.limits.TheConstants.{SOURCE_BYTES}
-use Rattle.tdl_io.specs.Outside.{Held, Reads}
+use Rattle.std.specs.Prelude.{◌≡◌, ℕ, List, Option}
+use Rattle.tdl_base.specs.declared.limits.TheConstants.{ALL_SOURCES_BYTES}
+use Rattle.tdl_io.specs.Outside.{Held}
 use Rattle.tdl_mode.specs.declared.program.Program.{Program}
 use Rattle.tdl_deploy.specs.declared.placement.Placement.{Placement}
 use Rattle.tdl_deploy.specs.declared.schedule.Schedule.{Schedule}
@@ -9,14 +9,9 @@ use Rattle.tdl_deploy.specs.Named.{one_node}
 use Rattle.tdl_deploy.specs.AtRelease.{schedule_at_release}
 use Rattle.tdl_image.specs.declared.bundle.Bundle.{Bundle}
 use Rattle.tdl_gen.specs.Realises.{bundle_of}
-use Rattle.tdl_words.specs.Words.{Words, word_at}
-use Rattle.tdl_top.specs.Sources.{SaysProgram}
-
--- these bytes were read as the file at word w, within the limit
-pub record IsRead (holds : Option Held) (words : Words) (w limit : ℕ) (bytes : List ℕ) : Type 0 where
-  pub reads : Reads holds (word_at words w) bytes
-  pub within : length bytes ≤ limit
-  pub in_range : All (λ b. b < 256) bytes
+use Rattle.tdl_tree.specs.declared.declarations.Tree.{Tree}
+use Rattle.tdl_words.specs.Words.{Words, words_from}
+use Rattle.tdl_top.specs.Sources.{HaveTrees, SayProgram}
 
 -- the placement that is taken: all modules on the one node `n1`
 abbrev pub placement_of : Program → Placement
@@ -30,16 +25,26 @@ schedule_of program placement = schedule_at_release program
 abbrev pub bundle_for : Program → Bundle
 bundle_for program = bundle_of program (placement_of program) (schedule_of program (placement_of program))
 
--- the file at word 1 was read and says this program
-pub record HasSource (holds : Option Held) (words : Words) (program : Program) : Type 0 where
-  pub bytes : List ℕ
-  pub read : IsRead holds words 1 SOURCE_BYTES bytes
-  pub says : SaysProgram bytes program
+-- the trees say a program, and this is its bundle
+pub record SayBundle (trees : List Tree) (bundle : Bundle) : Type 0 where
+  pub program : Program
+  pub say : SayProgram trees program
+  pub made : bundle ≡ bundle_for program
+
+-- the n sources whose names stand from word 1 on were read, and have these trees
+abbrev pub AreRead : Option Held → Words → (n : ℕ) → List Tree → Type 0
+AreRead holds words n trees = HaveTrees holds (words_from words 1 n) ALL_SOURCES_BYTES trees
+
+-- they were read, and say this program
+pub record HaveProgram (holds : Option Held) (words : Words) (n : ℕ) (program : Program) : Type 0 where
+  pub trees : List Tree
+  pub read : AreRead holds words n trees
+  pub say : SayProgram trees program
 
 -- the words and the files give this program, this placement and this schedule
-pub record IsTaken (holds : Option Held) (words : Words) (program : Program) (placement : Placement)
+pub record IsTaken (holds : Option Held) (words : Words) (n : ℕ) (program : Program) (placement : Placement)
     (schedule : Schedule)
     : Type 0 where
-  pub source : HasSource holds words program
+  pub sources : HaveProgram holds words n program
   pub placed : placement ≡ placement_of program
   pub scheduled : schedule ≡ schedule_of program placement

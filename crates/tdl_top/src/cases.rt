@@ -25,6 +25,8 @@ pub struct Case<'a> {
     pub words: &'a [&'a str],
     /// The source, or None where there is no such file.
     pub source: Option<&'a str>,
+    /// Further files: their names and what they hold.
+    pub more: &'a [(&'a str, &'a str)],
     /// The scenario, or None where there is no such file.
     pub scenario: Option<&'a str>,
     /// What `b` holds before the call.
@@ -45,6 +47,7 @@ pub fn good<'a>() -> Case<'a> {
     Case {
         words: &RUN,
         source: Some(SOURCE),
+        more: &[],
         scenario: Some(STEP),
         before: OLD,
         fail_files: &[],
@@ -121,6 +124,9 @@ pub fn files_of(alloc: Global, case: &Case) -> Result<MemFiles, AllocError> {
     let mut held = Vec::new(alloc);
     if let Some(source) = case.source {
         held.push(file(alloc, "P.tdl", source.as_bytes())?)?;
+    }
+    for (name, text) in case.more {
+        held.push(file(alloc, name, text.as_bytes())?)?;
     }
     if let Some(scenario) = case.scenario {
         held.push(file(alloc, "s", scenario.as_bytes())?)?;

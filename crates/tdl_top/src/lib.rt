@@ -2,8 +2,10 @@
 #![tactic(auto)]
 
 mod inputs;
+mod load;
 mod print;
 mod save;
+mod sources;
 mod top;
 
 pub use tdl_report::Status;
@@ -23,6 +25,8 @@ mod plain_tests;
 mod run_tests;
 #[cfg(test)]
 mod samples;
+#[cfg(test)]
+mod sources_tests;
 #[cfg(test)]
 mod syntax_tests;
 #[cfg(test)]

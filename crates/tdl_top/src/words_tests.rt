@@ -1,5 +1,7 @@
 use crate::Status;
 use crate::cases::{Case, refused, try_case};
+use std::alloc::Global;
+use std::process::Abort;
 use std::test::Fail;
 
 #[test]
@@ -13,6 +15,35 @@ fn other_words_are_usage(rt: HostRuntime) -> Result<(), Fail> {
         try_case(&rt, rt.alloc(), &case)?;
     }
     Ok(())
+}
+
+// A call of `compile` that names one source so often.
+fn try_count(
+    rt: &impl Abort,
+    alloc: Global,
+    count: usize,
+    status: Status,
+    err: &str,
+) -> Result<(), Fail> {
+    let mut words = Vec::new(alloc);
+    words.push("compile")?;
+    for _ in 0..count {
+        words.push("P.tdl")?;
+    }
+    words.push("--out")?;
+    words.push("b")?;
+    let case = Case {
+        words: words.as_slice(),
+        ..refused(status, err)
+    };
+    try_case(rt, alloc, &case)
+}
+
+#[test]
+fn there_are_up_to_64_sources(rt: HostRuntime) -> Result<(), Fail> {
+    let form = Status::BadForm { word: 1 };
+    try_count(&rt, rt.alloc(), 64, form, "tdl: form P.tdl\n")?;
+    try_count(&rt, rt.alloc(), 65, Status::Usage, "tdl: usage\n")
 }
 
 #[test]

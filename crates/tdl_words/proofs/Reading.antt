@@ -1,12 +1,13 @@
 -- The words of a call, read one after the other.
-use Rattle.std.proofs.Common.{◌≡◌, ◌<◌, ◌≤◌, ◌-◌, ◌&&◌, ℕ, zero, suc, List, [], ◌∷◌, length, get_or, take, drop, Bool, true, nat_eq, ap, subst, sym, refl, ◌∙◌, arith, Option, Some, None}
-use Rattle.std.proofs.lemmas.List.{take_rest}
+use Rattle.std.proofs.Common.{◌≡◌, ◌<◌, ◌≤◌, ◌-◌, ℕ, List, [], ◌∷◌, length, get_or, take, drop, nat_eq, true, false, ap, subst, sym, refl, ◌∙◌, arith, Option, Some, None}
+use Rattle.std.proofs.lemmas.List.{take_rest, drop-map}
 use Rattle.std.specs.Prelude.{String, option_and_then}
 use Rattle.std.specs.String.{string_bytes}
 use Rattle.std.specs.declared.alloc.Global.{Global}
 use Rattle.tdl_words.specs.declared.words.Command.{Command}
 use Rattle.tdl_words.specs.declared.words.Options.{Options}
-use Rattle.tdl_words.specs.Words.{Words, texts, is_file, command_of, are_options, are_arguments, call_by, call_in}
+use Rattle.tdl_words.specs.declared.words.Rule.{Rule}
+use Rattle.tdl_words.specs.Words.{texts, command_of, are_options, files_in, is_count, takes, follows, call_by, call_in}
 
 -- fewer than two words are options where there is none
 pub are_options-short : (allowed : Options) (words : List (String Global)) → length words < 2 →
@@ -15,23 +16,18 @@ are_options-short allowed [] short = refl
 are_options-short allowed (word ∷ []) short = refl
 are_options-short allowed (word ∷ other ∷ rest) short = absurd (omega (arith, short))
 
--- the first of the files' names, where one more is asked for
-pub arguments_of_one_more : (n : ℕ) (allowed : Options) (file : List ℕ) (rest : Words) → 0 < n →
-    are_arguments n allowed (file ∷ rest) ≡ (is_file file && are_arguments (n - 1) allowed rest)
-arguments_of_one_more zero allowed file rest more = absurd (omega (arith, more))
-arguments_of_one_more (suc n) allowed file rest more = let e : suc n - 1 ≡ n = omega arith in rw e refl
+-- where the files' names are as many as they may be, what is left are options
+pub follows-counted : (rule : Rule) (words : List (String Global)) (files : ℕ) → files ≡ files_in (texts words) →
+    is_count rule.most files ≡ true → takes rule (texts (drop files words)) ≡ follows rule (texts words)
+unfolding follows
+follows-counted rule words files is count =
+    sym (rw (sym is, count) (ap (takes rule) (drop-map string_bytes files words)))
 
--- so many files' names and options, after the first of the names
-pub arguments_step : (n : ℕ) (allowed : Options) (words : List (String Global)) (file : String Global) → 0 < n →
-    1 ≤ length words → file ≡ get_or words 0 file →
-    is_file (string_bytes file) ≡ true → are_arguments (n - 1) allowed (texts (take (length words - 1) (drop 1 words)))
-    ≡ are_arguments n allowed (texts words)
-arguments_step n allowed [] file more some is named = absurd (omega (arith, some))
-arguments_step n allowed (word ∷ rest) file more some is named =
-    ap (λ (ws : List (String Global)). are_arguments (n - 1) allowed (texts ws)) (take_rest (word ∷ rest) 1)
-    ∙ sym (arguments_of_one_more n allowed (string_bytes word) (texts rest) more
-    ∙ ap (λ (b : Bool). b && are_arguments (n - 1) allowed (texts rest))
-    (subst (λ (w : String Global). is_file (string_bytes w) ≡ true) is named))
+-- otherwise the words do not follow
+pub follows-uncounted : (rule : Rule) (words : List (String Global)) (files : ℕ) → files ≡ files_in (texts words) →
+    is_count rule.most files ≡ false → false ≡ follows rule (texts words)
+unfolding follows
+follows-uncounted rule words files is count = rw (sym is, count) refl
 
 -- what the words ask for, where the first names a command
 pub call_of-named : (words : List (String Global)) (first : String Global) (command : Command) → 1 ≤ length words →

@@ -1,8 +1,9 @@
 -- The words of a call.
-use Rattle.std.specs.Prelude.{String, ℕ, ◌+◌, zero, suc, Bool, true, false, not, ◌&&◌, ◌||◌, ◌==◌, List, [], ◌∷◌, map, slice_get, option_and_then, unwrap_or, codes, bytes_eq, if◌then◌else◌, Option, Some, None}
-use Rattle.std.specs.List.{list_any}
+use Rattle.std.specs.Prelude.{String, ℕ, ◌+◌, ◌≤◌, IsTrue, length, zero, suc, Bool, true, false, not, ◌&&◌, ◌||◌, ◌==◌, nat_lt, List, [], ◌∷◌, map, drop, slice_get, option_and_then, unwrap_or, codes, bytes_eq, if◌then◌else◌, Option, Some, None}
+use Rattle.std.specs.List.{list_any, AllByRecursion}
 use Rattle.std.specs.String.{string_bytes}
 use Rattle.std.specs.declared.alloc.Global.{Global}
+use Rattle.tdl_base.specs.declared.limits.TheConstants.{SOURCES}
 use Rattle.tdl_words.specs.declared.words.Call.{Call}
 use Rattle.tdl_words.specs.declared.words.Call.TheVariants as call
 use Rattle.tdl_words.specs.declared.words.Command.{Command}
@@ -22,10 +23,21 @@ texts words = map string_bytes words
 abbrev pub word_at : Words → ℕ → List ℕ
 word_at words k = unwrap_or (slice_get words k) []
 
+-- the n words from word k on
+abbrev pub words_from : Words → (k n : ℕ) → Words
+words_from words k zero = []
+words_from words k (suc n) = word_at words k ∷ words_from words (suc k) n
+
 -- a file's name is not empty and does not begin with `-`
 abbrev pub is_file : List ℕ → Bool
 is_file [] = false
 is_file (c ∷ cs) = not (c == 45)
+
+-- these are the names of sources, as many as a call takes
+pub record AreSources (files : Words) : Type 0 where
+  pub some : 1 ≤ length files
+  pub most : length files ≤ SOURCES
+  pub named : AllByRecursion (λ file. IsTrue (is_file file)) files
 
 -- a word is one of the words
 abbrev pub has_word : List ℕ → Words → Bool
@@ -41,25 +53,25 @@ command_of word =
     else if bytes_eq word (codes "exec") then Some Exec
     else None
 
--- how many files a command takes, and which options must and may stand after them
+-- how many files a command takes at most, and which options must and may stand after them
 abbrev pub rule_of : Command → Rule
 rule_of Compile =
     record {
-      files = 1;
+      most = SOURCES;
       required = record { out = true; scenario = false };
       allowed =
           record { out = true; scenario = false };
     }
 rule_of Run =
     record {
-      files = 1;
+      most = SOURCES;
       required = record { out = true; scenario = true };
       allowed =
           record { out = true; scenario = true };
     }
 rule_of Exec =
     record {
-      files = 1;
+      most = 1;
       required = record { out = false; scenario = true };
       allowed =
           record { out = false; scenario = true };
@@ -84,44 +96,58 @@ are_options allowed (option ∷ []) = false
 are_options allowed (option ∷ value ∷ rest) =
     is_option allowed option && is_file value && not (has_word option rest) && are_options allowed rest
 
--- the words are so many files' names, and then options
-abbrev pub are_arguments : ℕ → Options → Words → Bool
-are_arguments zero allowed words = are_options allowed words
-are_arguments (suc n) allowed [] = false
-are_arguments (suc n) allowed (file ∷ rest) = is_file file && are_arguments n allowed rest
+-- how many files' names stand before all other words
+abbrev pub files_in : Words → ℕ
+files_in [] = 0
+files_in (word ∷ rest) = if is_file word then suc (files_in rest) else 0
 
--- the words may stand after a command of this rule
-abbrev pub follows : Rule → Words → Bool
-follows rule words = are_arguments rule.files rule.allowed words && has_options rule.required words
+-- there is a file, and there are no more than so many
+abbrev pub is_count : (most files : ℕ) → Bool
+is_count most files = nat_lt 0 files && not (nat_lt most files)
+
+-- the words are options that this rule allows, and those that it requires are among them
+abbrev pub takes : Rule → Words → Bool
+takes rule words = are_options rule.allowed words && has_options rule.required words
+
+-- the words may stand after a command of this rule: files' names, and then options
+unfoldable pub follows : Rule → Words → Bool
+follows rule words = is_count rule.most (files_in words) && takes rule (drop (files_in words) words)
 
 -- the place after the first of the words that is this option, the words beginning at place k; 0 where there is none
 abbrev pub place_after : List ℕ → ℕ → Words → ℕ
 place_after option k [] = 0
 place_after option k (word ∷ rest) = if bytes_eq word option then k + 1 else place_after option (k + 1) rest
 
--- what a command asks for, with the places of its options' files
-abbrev pub call_at : Command → Words → Call
-call_at Compile words = call.Compile (place_after (codes "--out") 0 words)
-call_at Run words = call.Run (place_after (codes "--out") 0 words) (place_after (codes "--scen") 0 words)
-call_at Exec words = call.Exec (place_after (codes "--scen") 0 words)
+-- what a command asks for, by the words after it: how many sources, and the places of its options' files
+abbrev pub call_at : Command → Words → Words → Call
+call_at Compile words rest = call.Compile (files_in rest) (place_after (codes "--out") 0 words)
+call_at Run words rest =
+    call.Run (files_in rest) (place_after (codes "--out") 0 words) (place_after (codes "--scen") 0 words)
+call_at Exec words rest = call.Exec (place_after (codes "--scen") 0 words)
 
 -- what the words of a command ask for
 abbrev pub call_by : Command → Words → Words → Option Call
-call_by command words rest = if follows (rule_of command) rest then Some (call_at command words) else None
+call_by command words rest = if follows (rule_of command) rest then Some (call_at command words rest) else None
 
 -- what the words ask for; none where they are not those of a command
 abbrev pub call_in : Words → Option Call
 call_in [] = None
 call_in (word ∷ rest) = option_and_then (λ command. call_by command (word ∷ rest) rest) (command_of word)
 
+-- how many sources a call names, from word 1 on; none where it names a bundle
+abbrev pub source_count : Call → Option ℕ
+source_count (call.Compile sources out) = Some sources
+source_count (call.Run sources out scenario) = Some sources
+source_count (call.Exec scenario) = None
+
 -- the word of the file that a call saves
 abbrev pub out_word : Call → Option ℕ
-out_word (call.Compile out) = Some out
-out_word (call.Run out scenario) = Some out
+out_word (call.Compile sources out) = Some out
+out_word (call.Run sources out scenario) = Some out
 out_word (call.Exec scenario) = None
 
 -- the word of the scenario that a call reads
 abbrev pub scenario_word : Call → Option ℕ
-scenario_word (call.Compile out) = None
-scenario_word (call.Run out scenario) = Some scenario
+scenario_word (call.Compile sources out) = None
+scenario_word (call.Run sources out scenario) = Some scenario
 scenario_word (call.Exec scenario) = Some scenario

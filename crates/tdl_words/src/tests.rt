@@ -1,6 +1,7 @@
 use crate::{Call, read_call};
 use std::alloc::{AllocError, Global};
 use std::test::Fail;
+use tdl_base::limits::SOURCES;
 
 // The words, owned.
 fn strings(alloc: Global, words: &[&str]) -> Result<Vec<String>, AllocError> {
@@ -14,21 +15,53 @@ fn strings(alloc: Global, words: &[&str]) -> Result<Vec<String>, AllocError> {
 #[test]
 fn words_of_commands_are_calls(rt: HostRuntime) -> Result<(), Fail> {
     let compile = strings(rt.alloc(), &["compile", "P.tdl", "--out", "b"])?;
-    assert_eq!(&rt; read_call(&compile), Some(Call::Compile { out: 3 }));
+    let call = Call::Compile { sources: 1, out: 3 };
+    assert_eq!(&rt; read_call(&compile), Some(call));
+    let compile = strings(rt.alloc(), &["compile", "P.tdl", "Q.tdl", "--out", "b"])?;
+    let call = Call::Compile { sources: 2, out: 4 };
+    assert_eq!(&rt; read_call(&compile), Some(call));
     let exec = strings(rt.alloc(), &["exec", "b", "--scen", "s"])?;
     assert_eq!(&rt; read_call(&exec), Some(Call::Exec { scenario: 3 }));
-    let run = strings(rt.alloc(), &["run", "P.tdl", "--scen", "s", "--out", "b"])?;
+    let run = strings(
+        rt.alloc(),
+        &["run", "P", "Q", "P", "--scen", "s", "--out", "b"],
+    )?;
     let call = Call::Run {
-        out: 5,
-        scenario: 3,
+        sources: 3,
+        out: 7,
+        scenario: 5,
     };
     assert_eq!(&rt; read_call(&run), Some(call));
     Ok(())
 }
 
+// The words of `compile` with so many sources.
+fn with_sources(alloc: Global, count: usize) -> Result<Vec<String>, AllocError> {
+    let mut words = strings(alloc, &["compile"])?;
+    for _ in 0..count {
+        words.push(String::from_str(alloc, "P.tdl")?)?;
+    }
+    words.push(String::from_str(alloc, "--out")?)?;
+    words.push(String::from_str(alloc, "b")?)?;
+    Ok(words)
+}
+
+#[test]
+fn there_are_up_to_64_sources(rt: HostRuntime) -> Result<(), Fail> {
+    let words = with_sources(rt.alloc(), SOURCES)?;
+    let call = Call::Compile {
+        sources: 64,
+        out: 66,
+    };
+    assert_eq!(&rt; read_call(&words), Some(call));
+    let words = with_sources(rt.alloc(), SOURCES + 1)?;
+    assert_eq!(&rt; read_call(&words), None);
+    Ok(())
+}
+
 #[test]
 fn other_words_are_no_call(rt: HostRuntime) -> Result<(), Fail> {
-    let lists: [&[&str]; 17] = [
+    let lists: [&[&str]; 19] = [
         &[],
         &["run"],
         &["compile"],
@@ -42,9 +75,11 @@ fn other_words_are_no_call(rt: HostRuntime) -> Result<(), Fail> {
         &["exec", "--scen", "s"],
         &["exec", "b", "--scen", "s", "--log"],
         &["--help"],
-        // No file, two files, a file after an option.
+        // No file, two bundles, an empty name, a file after an option.
         &["run", "--out", "b", "--scen", "s"],
-        &["compile", "P.tdl", "P.tdl", "--out", "b"],
+        &["compile", "--out", "b"],
+        &["exec", "b", "b", "--scen", "s"],
+        &["compile", "P.tdl", "", "--out", "b"],
         &["run", "--out", "b", "P.tdl", "--scen", "s"],
         &["run", "P.tdl", "--out", "b", "--scen", "s", "s"],
         &["compile", "P.tdl", "--out", "b", "b"],

@@ -1,18 +1,30 @@
-ghost use Rattle.std.specs.Prelude.{◌≡◌};
-ghost use Rattle.tdl_words.specs.Words.{texts, word_at, is_file, has_word, command_of, rule_of, is_option, has_options, are_options, are_arguments, follows, place_after, call_at, call_by, call_in};
+ghost use Rattle.std.specs.Prelude.{◌≡◌, ◌≤◌, length};
+ghost use Rattle.tdl_words.specs.Words.{texts, word_at, is_file, has_word, command_of, rule_of, is_option, has_options, are_options, files_in, is_count, takes, follows, place_after, call_at, call_by, call_in};
+
+use tdl_base::limits::SOURCES;
 
 /// The place of the first file's name in the words of a call.
 pub const FILE_WORD: usize = 1;
 
-/// What the words of a call ask for, with the places of the other files' names.
+/// What the words of a call ask for: how many sources, whose names stand from word 1 on, and the
+/// places of the other files' names.
 #[derive(Clone, Copy, Debug, PartialEq, Eq)]
 pub enum Call {
-    /// Save the bundle of a source.
-    Compile { out: usize },
-    /// Save the bundle of a source, and print its run.
-    Run { out: usize, scenario: usize },
+    /// Save the bundle of sources.
+    Compile {
+        sources: usize,
+        out: usize,
+    },
+    /// Save the bundle of sources, and print its run.
+    Run {
+        sources: usize,
+        out: usize,
+        scenario: usize,
+    },
     /// Print the run of a bundle.
-    Exec { scenario: usize },
+    Exec {
+        scenario: usize,
+    },
 }
 
 /// What the first word of a call names.
@@ -30,11 +42,11 @@ pub struct Options {
     pub scenario: bool,
 }
 
-/// What stands after a command: how many files' names, and then, in any order, all options that are
-/// required and any that are allowed.
+/// What stands after a command: from 1 to so many files' names, and then, in any order, all options
+/// that are required and any that are allowed.
 #[derive(Clone, Copy, Debug, PartialEq, Eq)]
 pub struct Rule {
-    pub files: usize,
+    pub most: usize,
     pub required: Options,
     pub allowed: Options,
 }
@@ -77,13 +89,13 @@ fn command_of(word: &str) -> Option<Command>
 fn rule_of(command: Command) -> Rule
     ensures { result ≡ rule_of command }
 {
-    let (out, scenario) = match command {
-        Command::Compile => (true, false),
-        Command::Run => (true, true),
-        Command::Exec => (false, true),
+    let (most, out, scenario) = match command {
+        Command::Compile => (SOURCES, true, false),
+        Command::Run => (SOURCES, true, true),
+        Command::Exec => (1, false, true),
     };
     Rule {
-        files: 1,
+        most,
         required: Options { out, scenario },
         allowed: Options { out, scenario },
     }
@@ -117,29 +129,39 @@ fn are_options(allowed: Options, words: &[String]) -> bool
     left.len() == 0
 }
 
-// Whether the words are so many files' names, and then options.
-fn are_arguments(files: usize, allowed: Options, words: &[String]) -> bool
-    ensures { result ≡ are_arguments files allowed (texts words.now) }
+// How many files' names stand before all other words.
+fn files_in(words: &[String]) -> usize
+    ensures exact { result ≡ files_in (texts words.now) }
+    ensures within { result ≤ length words.now }
 {
-    let mut left = words;
-    let mut more = files;
-    while more > 0 {
-        let [file, rest @ ..] = left else {
-            return false;
-        };
-        if !is_file_name(file.as_str()) {
-            return false;
+    for (k, word) in words.iter().enumerate() {
+        if !is_file_name(word.as_str()) {
+            return k;
         }
-        left = rest;
-        more -= 1;
     }
-    are_options(allowed, left)
+    words.len()
+}
+
+fn is_count(most: usize, files: usize) -> bool
+    ensures { result ≡ is_count most files }
+{
+    0 < files && files <= most
+}
+
+fn takes(rule: Rule, words: &[String]) -> bool
+    ensures { result ≡ takes rule (texts words.now) }
+{
+    are_options(rule.allowed, words) && has_options(rule.required, words)
 }
 
 fn follows(rule: Rule, words: &[String]) -> bool
     ensures { result ≡ follows rule (texts words.now) }
 {
-    are_arguments(rule.files, rule.allowed, words) && has_options(rule.required, words)
+    let files = files_in(words);
+    if !is_count(rule.most, files) {
+        return false;
+    }
+    takes(rule, &words[files..])
 }
 
 // The place of an option's value among the words.
@@ -154,20 +176,20 @@ fn place_after(words: &[String], option: &str) -> usize
     0
 }
 
-fn call_at(command: Command, words: &[String]) -> Call
-    ensures { result ≡ call_at command (texts words.now) }
+fn call_at(command: Command, words: &[String], rest: &[String]) -> Call
+    ensures { result ≡ call_at command (texts words.now) (texts rest.now) }
 {
+    let sources = files_in(rest);
+    let out = place_after(words, "--out");
+    let scenario = place_after(words, "--scen");
     match command {
-        Command::Compile => Call::Compile {
-            out: place_after(words, "--out"),
-        },
+        Command::Compile => Call::Compile { sources, out },
         Command::Run => Call::Run {
-            out: place_after(words, "--out"),
-            scenario: place_after(words, "--scen"),
+            sources,
+            out,
+            scenario,
         },
-        Command::Exec => Call::Exec {
-            scenario: place_after(words, "--scen"),
-        },
+        Command::Exec => Call::Exec { scenario },
     }
 }
 
@@ -175,7 +197,7 @@ fn call_by(command: Command, words: &[String], rest: &[String]) -> Option<Call>
     ensures { result ≡ call_by command (texts words.now) (texts rest.now) }
 {
     if follows(rule_of(command), rest) {
-        Some(call_at(command, words))
+        Some(call_at(command, words, rest))
     } else {
         None
     }

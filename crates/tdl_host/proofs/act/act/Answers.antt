@@ -9,7 +9,7 @@ returns-clause-ok c =
       | in-Release+in_ok-release-in-Release w ↦ search rules
       | in-End+in_ok-end-in-End w ↦ search rules
       | in-Mode+in_ok-enter-in-Mode w ↦
-          rw (w.in-Mode.is, w.state-is, w.rows-is, add-one) (w.in_ok-enter-in-Mode.ensures c.args.pc)
+          rw (w.in-Mode.is, w.state-is, w.rows-is, add-one) (w.in_ok-enter-in-Mode.ensures.ok c.args.pc)
       | in-Future w ↦ search rules
       | in-Take w ↦ search rules
     ]

@@ -4,4 +4,5 @@ use Rattle.tdl_host.proofs.act.call.Goals as goal
 
 pub value-exact-requires : goal.value-exact-requires
 value-exact-requires c =
-    checked_driver c.args.scene.hosted.now c.args.driver c.in-Some.driver.now c.requires (search rules)
+    checked_driver c.hosted-hosted.result.now c.args.driver c.in-Some.driver.now c.hosted-hosted.ensures.codes
+    (search rules)

@@ -4,4 +4,4 @@ use Rattle.tdl_host.proofs.act.holds.Goals as goal
 
 pub value-requires : goal.value-requires
 value-requires c =
-    checked_guard c.args.scene.hosted.now c.args.guard c.in-Some.guard.now c.requires (search rules)
+    checked_guard c.hosted.result.now c.args.guard c.in-Some.guard.now c.hosted.ensures.codes (search rules)

@@ -6,5 +6,5 @@ use Rattle.tdl_host.proofs.micro.live_window.Given as goal
 abbrev pub invariant-loop-window : goal.invariant-loop-window
 invariant-loop-window l =
     option_to_list l.found
-    ++ filter (is_live l.at l.state) (drop l.window-index l.window-items)
-    ≡ filter (is_live l.at l.state) l.hosted.windows
+    ++ filter (is_live l.at l.state.now) (drop l.window-index l.window-items)
+    ≡ filter (is_live l.at l.state.now) l.state.host.windows

@@ -9,15 +9,17 @@ use Rattle.tdl_host.proofs.micro.run_micro.Goals as goal
 
 pub returns-in_default-clause-ok : goal.returns-in_default-clause-ok
 returns-in_default-clause-ok c =
-    let none : filter (is_live c.args.at c.args.state.now) c.args.hosted.now.windows ≡ [] =
+    let none : filter (is_live c.args.at c.args.state.now.now) c.args.state.now.host.windows ≡ [] =
     c.in_ok-window.ensures.ok ∙ ap option_to_list c.in_default.is in
-    ap (λ (ts : List TaskNow). record c.args.state.now { tasks = ts })
-    (sym (ap (λ (ws : List ImageWindow). tasks_run ws c.args.hosted.now.tasks c.args.state.now.tasks) none
-    ∙ tasks_run-idle c.args.hosted.now.tasks c.args.state.now.tasks))
+    ap (λ (ts : List TaskNow). record c.args.state.now.now { tasks = ts })
+    (sym (ap (λ (ws : List ImageWindow). tasks_run ws c.args.state.now.host.tasks c.args.state.now.now.tasks) none
+    ∙ tasks_run-idle c.args.state.now.host.tasks c.args.state.now.now.tasks))
 
 pub returns-clause-released : goal.returns-clause-released
 returns-clause-released c bound n =
-    let work : c.work.new.self
-    ≡ record c.args.state.now
-    { tasks = tasks_run (c.in-Some.window ∷ []) c.args.hosted.now.tasks c.args.state.now.tasks } = search rules in
-    run-counted bound (c.in-Some.window ∷ []) c.args.hosted.now.tasks c.args.state.now c.work.new.self work n
+    let work : c.work.new.self.now
+    ≡ record c.args.state.now.now
+    { tasks = tasks_run (c.in-Some.window ∷ []) c.args.state.now.host.tasks c.args.state.now.now.tasks } =
+    search rules in
+    run-counted bound (c.in-Some.window ∷ []) c.args.state.now.host.tasks c.args.state.now.now c.work.new.self.now work
+    n

@@ -1,6 +1,6 @@
 use Rattle.std.proofs.Common.{◌≡◌, take, map}
-use Rattle.tdl_verify.specs.States.{task_first}
+use Rattle.tdl_host.specs.Hosts.{first_view}
 use Rattle.tdl_host.proofs.task.first_tasks.Given as goal
 
 abbrev pub invariant-loop-table : goal.invariant-loop-table
-invariant-loop-table l = l.tasks.items ≡ map task_first (take l.table-index l.tables)
+invariant-loop-table l = l.tasks.items ≡ map first_view (take l.table-index l.tables)

@@ -25,50 +25,57 @@ returns-in_err-step-clause-trapped c =
     let left : c.args.declared - c.loop-done._done ≡ suc (c.args.declared - (c.loop-done._done + 1)) = omega arith in
     rw (p.1, p.2) (trap-by
     (λ (reason : Why). (n : ℕ) →
-    host_turn (suc n) c.args.scene.hosted.now c.args.scene.senses.now c.args.scene.at
-    (spot_now c.loop-done.standing) c.loop-done.state c.loop-done.rows ≡ Turned.Trapped reason)
-    (λ (reason : Why). host_turn c.args.declared c.args.scene.hosted.now c.args.scene.senses.now c.args.scene.at
-    Spot.Between c.args.state.now [] ≡ Turned.Trapped reason)
+    host_turn (suc n) c.loop-done.state.host c.args.scene.senses.now c.args.scene.at
+    (spot_now c.loop-done.standing) c.loop-done.state.now c.loop-done.rows ≡ Turned.Trapped reason)
+    (λ (reason : Why). host_turn c.args.declared c.args.state.now.host c.args.scene.senses.now c.args.scene.at
+    Spot.Between c.args.state.now.now [] ≡ Turned.Trapped reason)
     (λ reason step. one-step (c.args.declared - c.loop-done._done) (c.args.declared - (c.loop-done._done + 1))
-    c.args.scene.hosted.now c.args.scene.senses.now c.args.scene.at (spot_now c.loop-done.standing)
-    c.loop-done.state c.loop-done.rows _ _ left c.loop-done.invariant.same
+    c.loop-done.state.host c.args.scene.senses.now c.args.scene.at (spot_now c.loop-done.standing)
+    c.loop-done.state.now c.loop-done.rows _ _ left c.loop-done.invariant.same
     (step (c.args.declared - (c.loop-done._done + 1))))
     c.in_err-step.field-0.0 c.in_err-step.ensures.trapped)
 
 pub returns-in-Finished-clause-ok : goal.returns-in-Finished-clause-ok
 returns-in-Finished-clause-ok c =
     let left : c.args.declared - c.loop-done._done ≡ suc (c.args.declared - (c.loop-done._done + 1)) = omega arith in
-    let step : host_turn (suc (c.args.declared - (c.loop-done._done + 1))) c.args.scene.hosted.now
-    c.args.scene.senses.now c.args.scene.at (spot_now c.loop-done.standing) c.loop-done.state c.loop-done.rows
-    ≡ Turned.Finished (Part.Host c.args.scene.hosted.now c.step.new.state ∷ []) (filter is_plain c.step.new.rows) =
+    let step : host_turn (suc (c.args.declared - (c.loop-done._done + 1))) c.loop-done.state.host
+    c.args.scene.senses.now c.args.scene.at (spot_now c.loop-done.standing) c.loop-done.state.now c.loop-done.rows
+    ≡ Turned.Finished (Part.Host c.loop-done.state.host c.step.new.state.now ∷ []) (filter is_plain c.step.new.rows) =
     c.in_ok-step.ensures.ok (c.args.declared - (c.loop-done._done + 1))
-    ∙ ap (λ next. after_step (c.args.declared - (c.loop-done._done + 1)) c.args.scene.hosted.now
-    c.args.scene.senses.now c.args.scene.at c.step.new.state c.step.new.rows next) c.in-Finished.is in
+    ∙ ap (λ next. after_step (c.args.declared - (c.loop-done._done + 1)) c.loop-done.state.host
+    c.args.scene.senses.now c.args.scene.at c.step.new.state.now c.step.new.rows next) c.in-Finished.is in
     let plain : filter is_plain c.step.new.rows ≡ c.step.new.rows =
     c.in_ok-step.ensures.plain c.loop-done.invariant.plain in
-    one-step (c.args.declared - c.loop-done._done) (c.args.declared - (c.loop-done._done + 1)) c.args.scene.hosted.now
-    c.args.scene.senses.now c.args.scene.at (spot_now c.loop-done.standing) c.loop-done.state c.loop-done.rows _ _
+    one-step (c.args.declared - c.loop-done._done) (c.args.declared - (c.loop-done._done + 1)) c.loop-done.state.host
+    c.args.scene.senses.now c.args.scene.at (spot_now c.loop-done.standing) c.loop-done.state.now c.loop-done.rows _ _
     left c.loop-done.invariant.same step
-    ∙ ap (λ rows. Turned.Finished (Part.Host c.args.scene.hosted.now c.step.new.state ∷ []) rows) plain
+    ∙ ap (λ rows. Turned.Finished (Part.Host c.loop-done.state.host c.step.new.state.now ∷ []) rows) plain
+    ∙ ap (λ (h : Hosted). Turned.Finished (Part.Host h c.step.new.state.now ∷ []) c.step.new.rows)
+    c.loop-done.invariant.host
 
 pub loop-done-preserved : goal.loop-done-preserved
 loop-done-preserved c =
     let left : c.args.declared - c.loop-done._done ≡ suc (c.args.declared - (c.loop-done._done + 1)) = omega arith in
-    let step : host_turn (suc (c.args.declared - (c.loop-done._done + 1))) c.args.scene.hosted.now
-    c.args.scene.senses.now c.args.scene.at (spot_now c.loop-done.standing) c.loop-done.state c.loop-done.rows
-    ≡ host_turn (c.args.declared - (c.loop-done._done + 1)) c.args.scene.hosted.now c.args.scene.senses.now
-    c.args.scene.at (spot_now c.in-On.next) c.step.new.state c.step.new.rows =
+    let step : host_turn (suc (c.args.declared - (c.loop-done._done + 1))) c.loop-done.state.host
+    c.args.scene.senses.now c.args.scene.at (spot_now c.loop-done.standing) c.loop-done.state.now c.loop-done.rows
+    ≡ host_turn (c.args.declared - (c.loop-done._done + 1)) c.loop-done.state.host c.args.scene.senses.now
+    c.args.scene.at (spot_now c.in-On.next) c.step.new.state.now c.step.new.rows =
     c.in_ok-step.ensures.ok (c.args.declared - (c.loop-done._done + 1))
-    ∙ ap (λ next. after_step (c.args.declared - (c.loop-done._done + 1)) c.args.scene.hosted.now
-    c.args.scene.senses.now c.args.scene.at c.step.new.state c.step.new.rows next) c.in-On.is in
+    ∙ ap (λ next. after_step (c.args.declared - (c.loop-done._done + 1)) c.loop-done.state.host
+    c.args.scene.senses.now c.args.scene.at c.step.new.state.now c.step.new.rows next) c.in-On.is in
     record {
-      same = sym
+      host = c.step.ensures.host ∙ c.loop-done.invariant.host;
+      room = c.step.ensures.room ∙ c.loop-done.invariant.room;
+      same = ap
+          (λ (h : Hosted). host_turn (c.args.declared - (c.loop-done._done + 1)) h c.args.scene.senses.now
+          c.args.scene.at (spot_now c.in-On.next) c.step.new.state.now c.step.new.rows) c.step.ensures.host
+          ∙ sym
           (one-step (c.args.declared - c.loop-done._done) (c.args.declared - (c.loop-done._done + 1))
-          c.args.scene.hosted.now c.args.scene.senses.now c.args.scene.at (spot_now c.loop-done.standing)
-          c.loop-done.state c.loop-done.rows _ _ left c.loop-done.invariant.same step);
+          c.loop-done.state.host c.args.scene.senses.now c.args.scene.at (spot_now c.loop-done.standing)
+          c.loop-done.state.now c.loop-done.rows _ _ left c.loop-done.invariant.same step);
       released =
           counted-weaker (suc (c.args.scene.at * 2 ^ 32 + c.loop-done._done))
-          (c.args.scene.at * 2 ^ 32 + (c.loop-done._done + 1)) c.step.new.state (omega arith)
+          (c.args.scene.at * 2 ^ 32 + (c.loop-done._done + 1)) c.step.new.state.now (omega arith)
           (c.in_ok-step.ensures.released (c.args.scene.at * 2 ^ 32 + c.loop-done._done) c.loop-done.invariant.released);
       plain = c.in_ok-step.ensures.plain c.loop-done.invariant.plain;
     }
@@ -76,8 +83,8 @@ loop-done-preserved c =
 pub returns-in-Finished-clause-released : goal.returns-in-Finished-clause-released
 returns-in-Finished-clause-released c =
     let fits : c.args.declared < 2 ^ 32 = c.ranges.declared.fits in
-    counted-weaker (suc (c.args.scene.at * 2 ^ 32 + c.loop-done._done)) (suc c.args.scene.at * 2 ^ 32) c.step.new.state
-    (omega arith)
+    counted-weaker (suc (c.args.scene.at * 2 ^ 32 + c.loop-done._done)) (suc c.args.scene.at * 2 ^ 32)
+    c.step.new.state.now (omega arith)
     (c.in_ok-step.ensures.released (c.args.scene.at * 2 ^ 32 + c.loop-done._done) c.loop-done.invariant.released)
 
 pub returns-clause-released : goal.returns-clause-released
@@ -86,12 +93,16 @@ returns-clause-released c =
     let done : c.loop-done._done ≤ c.args.declared = c.loop-done.auto._done-end in
     on_ok_weaker c.last.result
     (λ tasks. counted-weaker (c.args.scene.at * 2 ^ 32 + c.loop-done._done) (suc c.args.scene.at * 2 ^ 32)
-    c.last.new.state (omega arith)
-    (counted-same (c.args.scene.at * 2 ^ 32 + c.loop-done._done) c.loop-done.state c.last.new.state tasks
+    c.last.new.state.now (omega arith)
+    (counted-same (c.args.scene.at * 2 ^ 32 + c.loop-done._done) c.loop-done.state.now c.last.new.state.now tasks
     c.loop-done.invariant.released)) c.last.ensures.tasks
 
 pub step-requires-clause-released : goal.step-requires-clause-released
 step-requires-clause-released c =
     let fits : c.args.declared < 2 ^ 32 = c.ranges.declared.fits in
-    counted-weaker (c.args.scene.at * 2 ^ 32 + c.loop-done._done) (2 ^ 64 - 2) c.loop-done.state (omega arith)
+    counted-weaker (c.args.scene.at * 2 ^ 32 + c.loop-done._done) (2 ^ 64 - 2) c.loop-done.state.now (omega arith)
     c.loop-done.invariant.released
+
+pub step-requires-clause-room : goal.step-requires-clause-room
+step-requires-clause-room c =
+    rw (c.loop-done.invariant.host, c.loop-done.invariant.room) c.requires.room

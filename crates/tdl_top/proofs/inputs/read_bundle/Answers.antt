@@ -6,8 +6,8 @@ use Rattle.tdl_top.proofs.InputsSay.{no_plain_bundle}
 use Rattle.tdl_top.proofs.inputs.read_bundle.Goals as goal
 
 pub returns-then-not-branch-clause-refused : goal.returns-then-not-branch-clause-refused
-returns-then-not-branch-clause-refused g c = λ w.
-    no_plain_bundle _ _ w c.in_ok-bytes.bytes.items c.in_ok-bundle.bundle c.in_ok-bytes.ensures.ok
+returns-then-not-branch-clause-refused g c = λ call is.
+    no_plain_bundle _ _ call c.in_ok-bytes.bytes.items c.in_ok-bundle.bundle is c.in_ok-bytes.ensures.ok
     c.in_ok-bundle.ensures.spellable
     (subst (λ (bytes : List ℕ). bytes ≡ bundle_bytes c.in_ok-bundle.bundle) c.deref.ensures.value
     c.in_ok-bundle.ensures.ok)

@@ -10,18 +10,18 @@ returns-in_err-bundle-clause-refused g c =
     let p = err_from_is_err_and c.from_residual.result c.from_residual.ensures.1 in
     rw (p.1, p.2)
     (says_input _ _ _ (Exec c.args.at) _ c.read_bundle.ensures.loads.held refl
-    (c.in_err-bundle.ensures.refused c.args.at))
+    (c.in_err-bundle.ensures.refused (Exec c.args.at) refl))
 
 pub returns-in_err-bundle-clause-not_ok : goal.returns-in_err-bundle-clause-not_ok
 returns-in_err-bundle-clause-not_ok g c =
     let p = err_from_is_err_and c.from_residual.result c.from_residual.ensures.1 in
-    rw (p.1, p.2) (input_not_ok _ _ (Exec c.args.at) _ (c.in_err-bundle.ensures.refused c.args.at))
+    rw (p.1, p.2) (input_not_ok _ _ (Exec c.args.at) _ (c.in_err-bundle.ensures.refused (Exec c.args.at) refl))
 
 pub returns-in_err-bundle-clause-not_save : goal.returns-in_err-bundle-clause-not_save
 returns-in_err-bundle-clause-not_save g c =
     let p = err_from_is_err_and c.from_residual.result c.from_residual.ensures.1 in
     λ w. rw (p.1, p.2) (input_no_save _ _ (Exec c.args.at) _
-    (c.in_err-bundle.ensures.refused c.args.at) w)
+    (c.in_err-bundle.ensures.refused (Exec c.args.at) refl) w)
 
 pub returns-in_err-scenario-clause-refused : goal.returns-in_err-scenario-clause-refused
 returns-in_err-scenario-clause-refused g c =
@@ -33,7 +33,7 @@ returns-in_err-scenario-clause-refused g c =
     (g.F.Files.told c.read_scenario.new.files) _ (Exec c.args.at) _ c.read_bundle.ensures.loads
     (c.in_err-scenario.ensures.refused (Exec c.args.at) refl
     (bundle_still (g.F.Files.told c.args.files.now) (g.F.Files.told c.read_bundle.new.files) _ (Exec c.args.at) _
-    c.read_bundle.ensures.loads (c.in_ok-bundle.ensures.ok c.args.at)))))
+    c.read_bundle.ensures.loads c.in_ok-bundle.ensures.ok))))
 
 pub returns-in_err-scenario-clause-not_ok : goal.returns-in_err-scenario-clause-not_ok
 returns-in_err-scenario-clause-not_ok g c =
@@ -41,7 +41,7 @@ returns-in_err-scenario-clause-not_ok g c =
     rw (p.1, p.2) (input_not_ok _ _ (Exec c.args.at) _
     (c.in_err-scenario.ensures.refused (Exec c.args.at) refl
     (bundle_still (g.F.Files.told c.args.files.now) (g.F.Files.told c.read_bundle.new.files) _ (Exec c.args.at) _
-    c.read_bundle.ensures.loads (c.in_ok-bundle.ensures.ok c.args.at))))
+    c.read_bundle.ensures.loads c.in_ok-bundle.ensures.ok)))
 
 pub returns-in_err-scenario-clause-not_save : goal.returns-in_err-scenario-clause-not_save
 returns-in_err-scenario-clause-not_save g c =
@@ -49,13 +49,13 @@ returns-in_err-scenario-clause-not_save g c =
     λ w. rw (p.1, p.2) (input_no_save _ _ (Exec c.args.at) _
     (c.in_err-scenario.ensures.refused (Exec c.args.at) refl
     (bundle_still (g.F.Files.told c.args.files.now) (g.F.Files.told c.read_bundle.new.files) _ (Exec c.args.at) _
-    c.read_bundle.ensures.loads (c.in_ok-bundle.ensures.ok c.args.at))) w)
+    c.read_bundle.ensures.loads c.in_ok-bundle.ensures.ok)) w)
 
 pub returns-clause-ok : goal.returns-clause-ok
 returns-clause-ok g c =
     on_ok_weaker c.print_run.result (λ printed.
     says_done _ _ _ (Exec c.args.at) c.in_ok-bundle.bundle c.args.at c.in_ok-scenario.scenario
-    (c.in_ok-bundle.ensures.ok c.args.at)
+    c.in_ok-bundle.ensures.ok
     (c.read_scenario.ensures.loads.held ∙ c.read_bundle.ensures.loads.held) refl
     (scenario_since (g.F.Files.told c.args.files.now) (g.F.Files.told c.read_bundle.new.files) _ _ _ _
     c.read_bundle.ensures.loads c.in_ok-scenario.ensures.ok) printed)
@@ -65,7 +65,7 @@ pub returns-clause-refused : goal.returns-clause-refused
 returns-clause-refused g c =
     IfErr-weaker c.print_run.result _ _ (λ status says.
     says_part _ _ _ (Exec c.args.at) c.in_ok-bundle.bundle c.args.at c.in_ok-scenario.scenario status
-    (c.in_ok-bundle.ensures.ok c.args.at)
+    c.in_ok-bundle.ensures.ok
     (c.read_scenario.ensures.loads.held ∙ c.read_bundle.ensures.loads.held) refl
     (scenario_since (g.F.Files.told c.args.files.now) (g.F.Files.told c.read_bundle.new.files) _ _ _ _
     c.read_bundle.ensures.loads c.in_ok-scenario.ensures.ok) says)

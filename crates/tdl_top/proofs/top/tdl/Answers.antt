@@ -8,24 +8,24 @@ use Rattle.tdl_top.proofs.Done as done
 use Rattle.tdl_top.proofs.top.tdl.Goals as goal
 
 pub returns-clause-compiles : goal.returns-clause-compiles
-returns-clause-compiles g c = λ w e called. done.compiles
+returns-clause-compiles g c = λ n w e called. done.compiles
     (files_call g.F.Files.told c.args.files.now c.answer.new.files)
     (texts c.args.words.now)
-    (sink_call g.O.Sink.told c.args.out.now c.answer.new.out) w (says_at
+    (sink_call g.O.Sink.told c.args.out.now c.answer.new.out) n w (says_at
     (files_call g.F.Files.told c.args.files.now c.answer.new.files)
     (texts c.args.words.now)
     (sink_call g.O.Sink.told c.args.out.now c.answer.new.out) (call_in (texts c.args.words.now)) c.answer.result Ok
-    (Compile w) called e c.answer.ensures.says)
+    (Compile n w) called e c.answer.ensures.says)
 
 pub returns-clause-runs : goal.returns-clause-runs
-returns-clause-runs g c = λ w v e called. done.runs
+returns-clause-runs g c = λ n w v e called. done.runs
     (files_call g.F.Files.told c.args.files.now c.answer.new.files)
     (texts c.args.words.now)
-    (sink_call g.O.Sink.told c.args.out.now c.answer.new.out) w v (says_at
+    (sink_call g.O.Sink.told c.args.out.now c.answer.new.out) n w v (says_at
     (files_call g.F.Files.told c.args.files.now c.answer.new.files)
     (texts c.args.words.now)
     (sink_call g.O.Sink.told c.args.out.now c.answer.new.out) (call_in (texts c.args.words.now)) c.answer.result Ok
-    (Run w v) called e c.answer.ensures.says)
+    (Run n w v) called e c.answer.ensures.says)
 
 pub returns-clause-executes : goal.returns-clause-executes
 returns-clause-executes g c = λ v e called. done.executes

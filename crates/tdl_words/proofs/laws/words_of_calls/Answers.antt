@@ -1,4 +1,4 @@
-use Rattle.tdl_words.proofs.TakenWords.{compile, run, run_scenario_first, exec}
+use Rattle.tdl_words.proofs.TakenWords.{compile, run, run_scenario_first, exec, too_many}
 use Rattle.tdl_words.proofs.laws.words_of_calls.Goals as goal
 
 pub returns : goal.returns
@@ -7,4 +7,5 @@ returns c = record {
   run = run;
   run_scenario_first = run_scenario_first;
   exec = exec;
+  too_many = too_many;
 }

@@ -1,0 +1,6 @@
+use Rattle.std.proofs.Common.{◌≡◌, ◌++◌, map, drop}
+use Rattle.tdl_cycles.proofs.offset_list.put_starts.Given as goal
+
+abbrev pub invariant-loop-invocation : goal.invariant-loop-invocation
+invariant-loop-invocation l =
+    l.into ++ map (λ x. x.s) (drop l.invocation-index l.invocations) ≡ l.fn.into ++ map (λ x. x.s) l.invocations

@@ -1,0 +1,11 @@
+//! The offsets of a mode, and the grain of a module.
+#![tactic(auto)]
+
+mod grains;
+mod offset_list;
+
+pub use grains::grain;
+pub use offset_list::offsets;
+
+#[cfg(test)]
+mod tests;

@@ -1,0 +1,3 @@
+pub mod DotLemmas
+pub mod FirstFault
+pub mod Examples

@@ -1,0 +1,3 @@
+pub mod SaidLines
+pub mod DottedWords
+pub mod Faults

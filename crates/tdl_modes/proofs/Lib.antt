@@ -1,0 +1,3 @@
+pub mod StartModes
+pub mod NumberedDeclarations
+pub mod ShortTimes

@@ -1,0 +1,1 @@
+-- One more declaration, and the end of them.

@@ -1,0 +1,3 @@
+pub mod FirstPlaces
+pub mod NamedItems
+pub mod ModuleScopes

@@ -1,0 +1,13 @@
+pub mod Lists
+pub mod Trees
+pub mod Naming
+pub mod Meanings
+pub mod Sorts
+pub mod Times
+pub mod Earliest
+pub mod Parts
+pub mod NameRules
+pub mod SortRules
+pub mod ModeRules
+pub mod BoundRules
+pub mod Faults

@@ -1,0 +1,5 @@
+pub mod Widths
+pub mod ItemsLeft
+pub mod Insides
+pub mod Lawful
+pub mod Ascending

@@ -1,0 +1,33 @@
+use Rattle.std.proofs.Common.{List, subst}
+use Rattle.std.proofs.lemmas.Result.{err_from_is_err_and, IfOk-weaker, IfErr-weaker}
+use Rattle.tdl_tree.specs.declared.declarations.Tree.{Tree}
+use Rattle.tdl_words.specs.Words.{texts}
+use Rattle.tdl_report.specs.Calls.{files_call}
+use Rattle.tdl_top.specs.Loads.{FormSays}
+use Rattle.tdl_top.specs.Taken.{SayBundle}
+use Rattle.tdl_top.proofs.InputsSay.{sources_input, form_input}
+use Rattle.tdl_top.proofs.sources.read_sources.Goals as goal
+
+pub returns-in_err-trees-clause-refused : goal.returns-in_err-trees-clause-refused
+returns-in_err-trees-clause-refused g c = λ call is.
+    let p = err_from_is_err_and c.from_residual.result c.from_residual.ensures.1 in
+    rw (p.1, p.2)
+    (sources_input (files_call g.F.Files.told c.args.files.now c.read_trees.new.files) (texts c.args.words.now) call
+    c.args.count c.in_err-trees.field-0.0 is c.in_err-trees.ensures.refused)
+
+pub returns-clause-ok : goal.returns-clause-ok
+returns-clause-ok g c =
+    IfOk-weaker c.bundle_of.result _ _ (λ bundle say.
+    record {
+      trees = c.in_ok-trees.trees;
+      read = c.in_ok-trees.ensures.ok;
+      say = subst (λ (trees : List Tree). SayBundle trees bundle) c.as_slice.ensures say;
+    }) c.bundle_of.ensures.ok
+
+pub returns-clause-refused : goal.returns-clause-refused
+returns-clause-refused g c = λ call is.
+    IfErr-weaker c.bundle_of.result _ _ (λ status says.
+    form_input (files_call g.F.Files.told c.args.files.now c.read_trees.new.files) (texts c.args.words.now) call
+    c.args.count c.in_ok-trees.trees status is c.in_ok-trees.ensures.ok
+    (subst (λ (trees : List Tree). FormSays trees status) c.as_slice.ensures says))
+    c.bundle_of.ensures.refused

@@ -1,0 +1,4 @@
+pub mod Minimum
+pub mod Walking
+pub mod Modules
+pub mod Late
