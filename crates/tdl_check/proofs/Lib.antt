@@ -1,2 +1,3 @@
 mod Members
 mod Joining
+mod Facts

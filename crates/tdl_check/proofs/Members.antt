@@ -1,5 +1,5 @@
 -- The earliest fault of a list depends on its members alone.
-use Rattle.std.proofs.Common.{◌≡◌, ℕ, ◌<◌, List, [], ◌∷◌, ◌++◌, Option, Some, None, All, Contains, false, inl, inr, subst, refl, sym, ap, arith}
+use Rattle.std.proofs.Common.{◌≡◌, ◌<◌, List, [], ◌∷◌, ◌++◌, Option, Some, None, Contains, false, inl, inr, subst, refl, sym, ap, arith}
 use Rattle.std.proofs.lemmas.List.Elements.{All-contains, All-contains_itself, All-weaker, Contains-append_left, Contains-append_right, Contains-append_cases}
 use Rattle.tdl_rules.specs.declared.fault.Fault.{Fault}
 use Rattle.tdl_rules.specs.Earliest.{is_before, earliest, IsFirst}

@@ -1,13 +1,17 @@
-//! The rules of programs together: whether sources keep them all, and the first fault where they
-//! do not.
+//! The check: the program that sources say which keep all rules, and the first fault where they do
+//! not.
 #![tactic(auto)]
 
-mod check;
+mod checked;
+mod checking;
 mod error;
 mod rules;
 
-pub use check::check_rules;
+pub use checked::Checked;
+pub use checking::check;
 pub use error::CheckError;
 
+#[cfg(test)]
+mod samples;
 #[cfg(test)]
 mod tests;

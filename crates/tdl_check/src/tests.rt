@@ -1,7 +1,9 @@
-use crate::{CheckError, check_rules};
+use crate::samples::{far, near};
+use crate::{CheckError, check};
 use std::alloc::Global;
 use std::test::Fail;
 use tdl_base::{Listed, NoMemory, Text};
+use tdl_mode::Module;
 use tdl_rules::Fault;
 use tdl_tree::{Decl, Id, Num, Time, Tree, Unit};
 
@@ -39,7 +41,7 @@ fn source(alloc: Global, start: bool) -> Result<Tree, NoMemory> {
 #[test]
 fn a_module_has_a_start_mode(rt: HostRuntime) -> Result<(), Fail> {
     let lawful = [source(rt.alloc(), true)?];
-    assert_eq!(rt; check_rules(rt.alloc(), &lawful), Ok(()));
+    assert!(rt; check(rt.alloc(), &lawful).is_ok());
     let fault = Fault {
         rule: 12,
         file: 0,
@@ -47,9 +49,51 @@ fn a_module_has_a_start_mode(rt: HostRuntime) -> Result<(), Fail> {
         col: 8,
     };
     let faulty = [source(rt.alloc(), false)?];
-    assert_eq!(rt;
-        check_rules(rt.alloc(), &faulty),
-        Err(CheckError::BadProgram(fault))
-    );
+    match check(rt.alloc(), &faulty) {
+        Ok(_) => panic!(rt; "a program without a start mode"),
+        Err(error) => assert_eq!(rt; error, CheckError::BadProgram(fault)),
+    }
+    Ok(())
+}
+
+/// The starts and ends of a module's invocations, the offsets of its updates and of its switches.
+fn instants(alloc: Global, module: &Module) -> Result<Listed<u64>, NoMemory> {
+    let mut list = Listed::new(alloc);
+    for mode in module.modes.as_slice() {
+        for invocation in mode.invocations.as_slice() {
+            list.push(invocation.s.0)?;
+            list.push(invocation.e.0)?;
+        }
+        for update in mode.updates.as_slice() {
+            list.push(update.at.0)?;
+        }
+        for switch in mode.switches.as_slice() {
+            list.push(switch.at.0)?;
+        }
+    }
+    Ok(list)
+}
+
+// Tables could always ask for memory in vain, and no program would ever be made.
+#[test]
+fn a_program_of_two_sources(rt: HostRuntime) -> Result<(), Fail> {
+    let alloc = rt.alloc();
+    let trees = [far(alloc)?, near(alloc)?];
+    let Ok(checked) = check(alloc, &trees) else {
+        panic!(rt; "a fault");
+    };
+    let Some(module) = checked.program().modules.get(1) else {
+        panic!(rt; "no second module");
+    };
+    let wanted = [0u64, 6, 9, 12, 4, 8, 12, 12];
+    assert_eq!(rt; instants(alloc, module)?.as_slice(), wanted.as_slice());
+    assert_eq!(rt; module.start.0, 1);
+    assert_eq!(rt; module.imports.len(), 1);
+    let counts = [
+        module.sensors.len(),
+        module.actuators.len(),
+        module.tasks.len(),
+    ];
+    assert_eq!(rt; counts, [1, 1, 1]);
     Ok(())
 }

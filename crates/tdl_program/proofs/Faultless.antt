@@ -1,12 +1,13 @@
 -- Sources that break no rule keep each rule.
 use Rattle.std.proofs.Common.{◌≡◌, List, [], ◌++◌}
+use Rattle.tdl_base.specs.declared.limits.TheConstants.{OCCURRENCES}
 use Rattle.tdl_tree.specs.declared.declarations.Tree.{Tree}
 use Rattle.tdl_rules.specs.Lists.{each}
 use Rattle.tdl_rules.specs.Parts.{modules, in_declarations}
 use Rattle.tdl_rules.specs.NameRules.{c1, c2, c3_c4, c6, c7}
 use Rattle.tdl_rules.specs.SortRules.{c5, c8}
 use Rattle.tdl_rules.specs.ModeRules.{c9, c10, c11, c12, c13, c14, c15, c16, c17}
-use Rattle.tdl_rules.specs.BoundRules.{c18, c19, c20, c21_module, c21_ports, c21}
+use Rattle.tdl_rules.specs.BoundRules.{c18, c19, c20, c21_module, c21_ports, counted, passes, c21}
 use Rattle.tdl_rules.specs.Faults.{faults}
 use Rattle.tdl_program.proofs.Emptiness.{empty-parts}
 
@@ -16,6 +17,8 @@ pub record Faultless (sources : List Tree) : Type 0 where
   pub names : c3_c4 sources ≡ []
   pub arguments : c7 sources ≡ []
   pub periods : c9 sources ≡ []
+  pub frequencies : c10 sources ≡ []
+  pub ranges : c11 sources ≡ []
   pub starts : c12 sources ≡ []
   pub invocations : c13 sources ≡ []
   pub updates : c14 sources ≡ []
@@ -23,6 +26,7 @@ pub record Faultless (sources : List Tree) : Type 0 where
   pub targets : c16 sources ≡ []
   pub worsts : c17 sources ≡ []
   pub counts : each c21_module (modules sources) ≡ []
+  pub occurrences : passes OCCURRENCES (each (λ scope. each (counted scope) scope.tree.decls) (modules sources)) ≡ []
 
 -- so they are
 pub faultless : (sources : List Tree) → faults sources ≡ [] → Faultless sources
@@ -52,6 +56,8 @@ faultless sources none =
       names = a3.0;
       arguments = a7.0;
       periods = a9.0;
+      frequencies = a10.0;
+      ranges = a11.0;
       starts = a12.0;
       invocations = a13.0;
       updates = a14.0;
@@ -59,4 +65,5 @@ faultless sources none =
       targets = a16.0;
       worsts = a17.0;
       counts = (empty-parts (each c21_module (modules sources)) (in_declarations c21_ports sources) parts.0).0;
+      occurrences = parts.1;
     }

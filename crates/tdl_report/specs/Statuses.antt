@@ -3,7 +3,7 @@ use Rattle.std.specs.Prelude.{ℕ, List, [], ◌++◌, codes}
 use Rattle.std.specs.Fmt.{decimal}
 use Rattle.tdl_words.specs.Words.{Words, word_at}
 use Rattle.tdl_report.specs.declared.status.Status.{Status}
-use Rattle.tdl_report.specs.declared.status.Status.TheVariants.{Ok, Usage, LoadFailed, TooLong, BadToken, BadSyntax, WriteFailed, SaveFailed, BadBundle, NoMemory, BadForm}
+use Rattle.tdl_report.specs.declared.status.Status.TheVariants.{Ok, Usage, LoadFailed, TooLong, BadToken, BadSyntax, BadProgram, WriteFailed, SaveFailed, BadBundle, NoMemory, BadForm}
 
 -- the exit status
 abbrev pub code_of : Status → ℕ
@@ -13,6 +13,7 @@ code_of (LoadFailed w) = 2
 code_of (TooLong w) = 3
 code_of (BadToken w line col) = 4
 code_of (BadSyntax w line col) = 5
+code_of (BadProgram w rule line col) = 6
 code_of (BadBundle rule at) = 11
 code_of WriteFailed = 13
 code_of (SaveFailed w) = 14
@@ -27,6 +28,10 @@ named_line text name = text ++ name ++ codes "\n"
 abbrev pub place_line : List ℕ → List ℕ → (line col : ℕ) → List ℕ
 place_line text name line col = text ++ name ++ codes ":" ++ decimal line ++ codes ":" ++ decimal col ++ codes "\n"
 
+-- a line that names a rule of programs and a place in a source
+abbrev pub program_line : (rule : ℕ) → List ℕ → (line col : ℕ) → List ℕ
+program_line rule name line col = place_line (codes "tdl: program C" ++ decimal rule ++ codes " at ") name line col
+
 -- a line that names a rule of bundles and a place in the bytes
 abbrev pub bundle_line : (rule at : ℕ) → List ℕ
 bundle_line rule at = codes "tdl: bundle B" ++ decimal rule ++ codes " at " ++ decimal at ++ codes "\n"
@@ -39,6 +44,7 @@ error_line words (LoadFailed w) = named_line (codes "tdl: cannot load ") (word_a
 error_line words (TooLong w) = named_line (codes "tdl: too long ") (word_at words w)
 error_line words (BadToken w line col) = place_line (codes "tdl: token at ") (word_at words w) line col
 error_line words (BadSyntax w line col) = place_line (codes "tdl: syntax at ") (word_at words w) line col
+error_line words (BadProgram w rule line col) = program_line rule (word_at words w) line col
 error_line words WriteFailed = codes "tdl: cannot write\n"
 error_line words (SaveFailed w) = named_line (codes "tdl: cannot save ") (word_at words w)
 error_line words (BadBundle rule at) = bundle_line rule at

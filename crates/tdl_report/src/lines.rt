@@ -1,6 +1,6 @@
 ghost use Rattle.std.specs.Fmt.{decimal};
 ghost use Rattle.std.specs.Prelude.{◌≡◌, ◌++◌, OnOk, IfOk};
-ghost use Rattle.tdl_report.specs.Statuses.{bundle_line, named_line, place_line};
+ghost use Rattle.tdl_report.specs.Statuses.{bundle_line, named_line, place_line, program_line};
 
 use itoa::Buffer;
 use std::alloc::Global;
@@ -42,6 +42,22 @@ pub fn place_line(
     put_number(&mut made, col)?;
     made.extend_from_slice(b"\n")?;
     Ok(made)
+}
+
+/// The line that names a rule of programs and a place in a source.
+pub fn program_line(
+    alloc: Global,
+    rule: u8,
+    name: &str,
+    line: u32,
+    col: u32,
+) -> Result<Vec<u8>, NoMemory>
+    ensures { IfOk result (λ made. made.items ≡ program_line rule name.now line col) }
+{
+    let mut text = Vec::from_slice(alloc, b"tdl: program C")?;
+    put_number(&mut text, u32::from(rule))?;
+    text.extend_from_slice(b" at ")?;
+    place_line(alloc, &text, name, line, col)
 }
 
 /// The line that names a rule of bundles and a place in the bytes.

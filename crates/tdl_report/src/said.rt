@@ -5,7 +5,7 @@ ghost use Rattle.tdl_report.specs.Calls.{sink_call};
 ghost use Rattle.tdl_report.specs.Reports.{IsSaid};
 
 use crate::Status;
-use crate::lines::{bundle_line, named_line, place_line};
+use crate::lines::{bundle_line, named_line, place_line, program_line};
 use std::alloc::Global;
 use tdl_base::NoMemory;
 use tdl_io::Sink;
@@ -96,6 +96,15 @@ pub fn report<E: Sink>(alloc: Global, words: &[String], status: Status, err: &mu
             col,
         } => {
             let made = place_line(alloc, b"tdl: syntax at ", word(words, at), line, col);
+            say_made(made, words, status, err)
+        }
+        Status::BadProgram {
+            word: at,
+            rule,
+            line,
+            col,
+        } => {
+            let made = program_line(alloc, rule, word(words, at), line, col);
             say_made(made, words, status, err)
         }
         Status::BadBundle { rule, at } => {

@@ -10,24 +10,50 @@ pub enum Status {
     /// The words are not those of a command.
     Usage,
     /// A file could not be read.
-    LoadFailed { word: usize },
+    LoadFailed {
+        word: usize,
+    },
     /// A file is longer than its limit.
-    TooLong { word: usize },
+    TooLong {
+        word: usize,
+    },
     /// No token begins at a place of a source: its line and its column in bytes, each from 1.
-    BadToken { word: usize, line: u32, col: u32 },
+    BadToken {
+        word: usize,
+        line: u32,
+        col: u32,
+    },
     /// A token of a source is out of place, or the source ends too early: the token's line and
     /// column, or those of the source's end.
-    BadSyntax { word: usize, line: u32, col: u32 },
+    BadSyntax {
+        word: usize,
+        line: u32,
+        col: u32,
+    },
+    /// A rule of programs, 1 to 21, is broken at a place of a source: its line and its column.
+    BadProgram {
+        word: usize,
+        rule: u8,
+        line: u32,
+        col: u32,
+    },
     /// The output could not be written.
     WriteFailed,
     /// A file could not be written.
-    SaveFailed { word: usize },
+    SaveFailed {
+        word: usize,
+    },
     /// The bytes of a bundle break rule B1 to B4 at a place, which is counted in bytes from 0.
-    BadBundle { rule: u8, at: u32 },
+    BadBundle {
+        rule: u8,
+        at: u32,
+    },
     /// There was no memory.
     NoMemory,
     /// A file is not of the form that is taken today.
-    BadForm { word: usize },
+    BadForm {
+        word: usize,
+    },
 }
 
 impl Status {
@@ -50,6 +76,12 @@ impl Status {
                 line: _,
                 col: _,
             } => 5,
+            Status::BadProgram {
+                word: _,
+                rule: _,
+                line: _,
+                col: _,
+            } => 6,
             Status::BadBundle { rule: _, at: _ } => 11,
             Status::WriteFailed => 13,
             Status::SaveFailed { word: _ } => 14,

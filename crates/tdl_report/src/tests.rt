@@ -14,6 +14,12 @@ fn each_status_has_its_code_and_line(rt: HostRuntime) -> Result<(), Fail> {
         line: 1,
         col: 8,
     };
+    let program = Status::BadProgram {
+        word: 0,
+        rule: 12,
+        line: 1,
+        col: 8,
+    };
     let bundle = Status::BadBundle { rule: 2, at: 216 };
     let rows = [
         (Status::Usage, 1, "tdl: usage\n"),
@@ -25,6 +31,7 @@ fn each_status_has_its_code_and_line(rt: HostRuntime) -> Result<(), Fail> {
         (Status::TooLong { word: 0 }, 3, "tdl: too long P.tdl\n"),
         (token, 4, "tdl: token at P.tdl:12:340\n"),
         (syntax, 5, "tdl: syntax at P.tdl:1:8\n"),
+        (program, 6, "tdl: program C12 at P.tdl:1:8\n"),
         (bundle, 11, "tdl: bundle B2 at 216\n"),
         (Status::WriteFailed, 13, "tdl: cannot write\n"),
         (Status::NoMemory, 16, "tdl: no memory\n"),

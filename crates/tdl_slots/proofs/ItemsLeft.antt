@@ -1,5 +1,5 @@
 -- Whether an item passes, over the items that a walk by number has left.
-use Rattle.std.proofs.Common.{◌≡◌, ℕ, suc, ◌<◌, ◌≤◌, ◌+◌, ◌-◌, Bool, true, false, ◌||◌, List, ◌∷◌, length, map, drop, drop-cons, Some, slice_get, sym, ap, ap₂, ◌∙◌, arith}
+use Rattle.std.proofs.Common.{◌≡◌, ℕ, suc, ◌<◌, ◌≤◌, ◌+◌, ◌-◌, Bool, true, false, ◌||◌, List, [], ◌∷◌, ◌++◌, length, map, drop, drop-cons, Some, slice_get, sym, ap, ap₂, ◌∙◌, append_assoc, arith}
 use Rattle.std.specs.List.{list_any}
 use Rattle.std.proofs.lemmas.List.{drop_all}
 use Rattle.std.proofs.lemmas.List.Folds.{list_any-append}
@@ -98,3 +98,11 @@ pub ends_slots : (p : ℕ → Bool) (f : ℕ → ℕ) (slot last : ℕ) (all : B
 ends_slots p f slot last all past before =
     let none : suc last - slot ≡ 0 = omega (arith, past) in
     sym (before ∙ ap (λ (z : ℕ). list_any p (map f (from slot z))) none)
+
+-- one slot more, of a list of what is made of slots
+pub more_slots : (f : ℕ → ℕ) (done now all : List ℕ) (slot last : ℕ) → slot ≤ last → now ≡ done ++ f slot ∷ [] →
+    done ++ map f (from slot (suc last - slot)) ≡ all → now ++ map f (from (slot + 1) (suc last - (slot + 1))) ≡ all
+more_slots f done now all slot last inside put before =
+    let rest = map f (from (slot + 1) (suc last - (slot + 1))) in
+    ap (λ (z : List ℕ). z ++ rest) put ∙ append_assoc done (f slot ∷ []) rest
+    ∙ ap (λ (z : List ℕ). done ++ map f z) (sym (slots_front slot last inside)) ∙ before

@@ -3,3 +3,4 @@ pub mod ItemsLeft
 pub mod Insides
 pub mod Lawful
 pub mod Ascending
+pub mod Listing

@@ -3,6 +3,7 @@ use Rattle.std.specs.Prelude.{ℕ, suc, List, map, ◌*◌, ◌-◌}
 use Rattle.tdl_rules.specs.Lists.{each}
 use Rattle.tdl_rules.specs.Times.{Let, ranges, from}
 use Rattle.tdl_slots.specs.declared.chosen.Chosen.{Chosen}
+use Rattle.tdl_slots.specs.declared.lists.Span.{Span}
 
 -- the logical execution time of the slots i to j, where slots have this width
 abbrev pub span_of : ℕ → ℕ × ℕ → Let
@@ -23,3 +24,7 @@ spans_in chosen = map (span_of chosen.width) (ranges_in chosen)
 -- an offset for each slot
 abbrev pub offsets_in : Chosen → List ℕ
 offsets_in chosen = each (ends_of chosen.width) (ranges_in chosen)
+
+-- the logical execution time that code names by its start and its end
+abbrev pub let_of : Span → Let
+let_of span = record { s = span.start; e = span.end }

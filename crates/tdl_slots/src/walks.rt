@@ -45,7 +45,7 @@ impl OnSpan for Inside {
 
 impl<'a> Chosen<'a> {
     /// How many ranges there are.
-    fn count(&self) -> u64
+    pub(crate) fn count(&self) -> u64
         ensures { result ≡ length (ranges_in self.now) }
     {
         if self.slots.len() == 0 {
@@ -56,7 +56,7 @@ impl<'a> Chosen<'a> {
     }
 
     /// A range by its number from 0: its first slot and its last, which count from 1.
-    fn range(&self, number: u64) -> Option<(u64, u64)>
+    pub(crate) fn range(&self, number: u64) -> Option<(u64, u64)>
         ensures value { result ≡ slice_get (ranges_in self.now) number }
         ensures within { IfSome result (λ range. (1 ≤ range.0) × (range.0 ≤ range.1) ×
             (range.1 ≤ self.now.frequency)) }

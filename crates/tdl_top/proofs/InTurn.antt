@@ -1,5 +1,5 @@
 -- Sources that are read one after the other.
-use Rattle.std.proofs.Common.{◌≡◌, ℕ, suc, List, [], ◌∷◌, ◌++◌, subst, sym, inl, inr, append_assoc, append-nil, Option}
+use Rattle.std.proofs.Common.{◌≡◌, ℕ, zero, suc, List, [], ◌∷◌, ◌++◌, length, ap, refl, subst, sym, inl, inr, append_assoc, append-nil, Option}
 use Rattle.tdl_base.specs.declared.limits.TheConstants.{ALL_SOURCES_BYTES}
 use Rattle.tdl_io.specs.Outside.{Held}
 use Rattle.tdl_io.specs.Told.{FilesTold}
@@ -64,6 +64,20 @@ all_read holds words n w m left trees none so_far =
     let end : AreReadTo holds words n w 0 left trees =
     subst (λ (j : ℕ). AreReadTo holds words n w j left trees) none so_far in
     subst (AreRead holds words n) (append-nil trees) (end.good [] tt)
+
+-- as many trees as sources
+trees_count : (holds : Option Held) (words : Words) (k n left : ℕ) (trees : List Tree) →
+    HaveTrees holds (words_from words k n) left trees → length trees ≡ n
+trees_count holds words k zero left [] have = refl
+trees_count holds words k zero left (tree ∷ trees) have = absurd have
+trees_count holds words k (suc n) left [] have = absurd have
+trees_count holds words k (suc n) left (tree ∷ trees) have =
+    ap suc (trees_count holds words (suc k) n have.0 trees have.2)
+
+-- of so many sources there are so many trees
+pub read_count : (holds : Option Held) (words : Words) (n : ℕ) (trees : List Tree) → AreRead holds words n trees →
+    length trees ≡ n
+read_count holds words n trees read = trees_count holds words 1 n ALL_SOURCES_BYTES trees read
 
 -- ---- one of them is refused
 

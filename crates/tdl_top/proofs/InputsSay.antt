@@ -6,6 +6,7 @@ use Rattle.tdl_io.specs.Outside.{Held}
 use Rattle.tdl_io.specs.Told.{FilesTold}
 use Rattle.tdl_mode.specs.declared.program.Program.{Program}
 use Rattle.tdl_tree.specs.declared.declarations.Tree.{Tree}
+use Rattle.tdl_rules.specs.Faults.{faults}
 use Rattle.tdl_plain.specs.declared.form.Form.{Form}
 use Rattle.tdl_plain.specs.PlainSource.{IsPlainForm}
 use Rattle.tdl_plain.specs.PlainTree.{IsPlainTree}
@@ -21,7 +22,7 @@ use Rattle.tdl_make.specs.PlainBundle.{plain_bundle, IsPlainBundle}
 use Rattle.tdl_make.proofs.Spelled.{plain_spellable}
 use Rattle.tdl_make.proofs.PlainRealises.{made}
 use Rattle.tdl_report.specs.declared.status.Status.{Status}
-use Rattle.tdl_report.specs.declared.status.Status.TheVariants.{Ok, LoadFailed, TooLong, BadToken, BadSyntax, SaveFailed, BadBundle, NoMemory, BadForm}
+use Rattle.tdl_report.specs.declared.status.Status.TheVariants.{Ok, LoadFailed, TooLong, BadToken, BadSyntax, BadProgram, SaveFailed, BadBundle, NoMemory, BadForm}
 use Rattle.tdl_words.specs.declared.words.Call.{Call}
 use Rattle.tdl_words.specs.Words.{Words, word_at, source_count}
 use Rattle.tdl_report.specs.Calls.{FilesCall, OnlyLoads}
@@ -29,7 +30,7 @@ use Rattle.tdl_top.specs.Sources.{IsRead, SayProgram}
 use Rattle.tdl_top.specs.Taken.{AreRead, SayBundle}
 use Rattle.tdl_top.specs.Inputs.{HasBundle, HasScenario}
 use Rattle.tdl_top.specs.Refused.{InputSays, IsAsked, IsAskedFirst, IsRefused, FirstRefused, BundleRefused, IsFailedLoad}
-use Rattle.tdl_top.specs.Loads.{LoadSays, DecodeSays, SourcesSay, FormSays}
+use Rattle.tdl_top.specs.Loads.{LoadSays, DecodeSays, SourcesSay, RulesSay, FormSays}
 use Rattle.tdl_top.proofs.Loading.{named_earlier}
 
 -- ---- the form of a source
@@ -51,12 +52,12 @@ single [] x one is = absurd (omega (arith, one))
 single (y ∷ []) x one is = ap (λ (z : Tree). z ∷ []) (sym is)
 single (y ∷ z ∷ xs) x one is = absurd (omega (arith, one))
 
--- a plain tree gives its bundle
-pub plain_says : (f : Form) (trees : List Tree) (tree : Tree) → length trees ≡ 1 → tree ≡ get_or trees 0 tree →
+-- a plain tree that breaks no rule gives its bundle
+pub plain_says : (f : Form) (trees : List Tree) (tree : Tree) → faults trees ≡ [] → length trees ≡ 1 → tree ≡ get_or trees 0 tree →
     IsPlainTree f tree → SayBundle trees (plain_bundle f)
-plain_says f trees tree one is plain = record {
+plain_says f trees tree obey one is plain = record {
   program = program_of f;
-  say = record { tree = tree; only = single trees tree one is; says = record { form = f; plain = plain; is = refl } };
+  say = record { obey = obey; tree = tree; only = single trees tree one is; says = record { form = f; plain = plain; is = refl } };
   made = sym (made f (runnable f plain.lawful));
 }
 
@@ -90,13 +91,22 @@ sources_input files words call n (BadSyntax w line col) is says =
 sources_input files words call n NoMemory is says = tt
 sources_input files words call n s is says = absurd says
 
+-- what a refusal for the rules says, a refusal of the trees says
+pub rules_form : (trees : List Tree) (s : Status) → RulesSay trees s → FormSays trees s
+rules_form trees (BadProgram w rule line col) says = says
+rules_form trees NoMemory says = tt
+rules_form trees s says = absurd says
+
 -- so it is for what their trees are refused for
 pub form_input : (files : FilesCall) (words : Words) (call : Call) (n : ℕ) (trees : List Tree) (s : Status) →
     source_count call ≡ Some n → AreRead files.before.holds words n trees → FormSays trees s →
     InputSays files words call s
+form_input files words call n trees (BadProgram w rule line col) is read says =
+    inl (subst (λ (o : Option ℕ). FirstRefused files.before.holds words o (BadProgram w rule line col)) (sym is)
+    (record { trees = trees; read = read; fault = says }))
 form_input files words call n trees (BadForm w) is read says =
     inl (subst (λ (o : Option ℕ). FirstRefused files.before.holds words o (BadForm w)) (sym is)
-    (says.0, record { trees = trees; read = read; other = says.1 }))
+    (says.0, record { trees = trees; read = read; obey = says.1; other = says.2 }))
 form_input files words call n trees NoMemory is read says = tt
 form_input files words call n trees s is read says = absurd says
 
@@ -173,6 +183,8 @@ says_earlier a b c words call (BadToken w line col) loads says =
     subst (λ (h : Option Held). IsRefused h words call (BadToken w line col)) loads.held says
 says_earlier a b c words call (BadSyntax w line col) loads says =
     subst (λ (h : Option Held). IsRefused h words call (BadSyntax w line col)) loads.held says
+says_earlier a b c words call (BadProgram w rule line col) loads says =
+    subst (λ (h : Option Held). IsRefused h words call (BadProgram w rule line col)) loads.held says
 says_earlier a b c words call (BadBundle rule at) loads says =
     subst (λ (h : Option Held). IsRefused h words call (BadBundle rule at)) loads.held says
 says_earlier a b c words call (BadForm w) loads says =

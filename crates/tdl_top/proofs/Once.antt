@@ -9,7 +9,7 @@ use Rattle.tdl_verify.specs.Texts.{bundle_names}
 use Rattle.tdl_words.specs.declared.words.Call.{Call}
 use Rattle.tdl_words.specs.Words.{Words, word_at, source_count, scenario_word}
 use Rattle.tdl_report.specs.declared.status.Status.{Status}
-use Rattle.tdl_report.specs.declared.status.Status.TheVariants.{Ok, Usage, TooLong, BadToken, BadSyntax, BadBundle, BadForm}
+use Rattle.tdl_report.specs.declared.status.Status.TheVariants.{Ok, Usage, TooLong, BadToken, BadSyntax, BadProgram, BadBundle, BadForm}
 use Rattle.tdl_report.specs.Calls.{FilesCall, SinkCall}
 use Rattle.tdl_top.specs.Sources.{IsRead}
 use Rattle.tdl_top.specs.Inputs.{Gives, IsScenarioOf, HasBundle, HasScenario}
@@ -142,6 +142,8 @@ module _ (files : FilesCall) (words : Words) (out : SinkCall) (held : Held) (e :
       inr (subst (λ (h : Option Held). IsRefused h words call (BadToken w l c)) e says.0)
   says_due_of call (BadSyntax w l c) says =
       inr (subst (λ (h : Option Held). IsRefused h words call (BadSyntax w l c)) e says.0)
+  says_due_of call (BadProgram w r l c) says =
+      inr (subst (λ (h : Option Held). IsRefused h words call (BadProgram w r l c)) e says.0)
   says_due_of call (BadBundle r a) says =
       inr (subst (λ (h : Option Held). IsRefused h words call (BadBundle r a)) e says.0)
   says_due_of call (BadForm w) says =

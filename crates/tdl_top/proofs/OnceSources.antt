@@ -8,12 +8,12 @@ use Rattle.tdl_tree.specs.declared.declarations.Tree.{Tree}
 use Rattle.tdl_image.specs.declared.bundle.Bundle.{Bundle}
 use Rattle.tdl_words.specs.Words.{Words, words_from}
 use Rattle.tdl_report.specs.declared.status.Status.{Status}
-use Rattle.tdl_report.specs.declared.status.Status.TheVariants.{TooLong, BadToken, BadSyntax, BadForm}
-use Rattle.tdl_top.specs.Sources.{HasTree, HasSyntaxFault, IsRead, IsGood, HaveTrees, AtSource, SayProgram, limit_of}
+use Rattle.tdl_report.specs.declared.status.Status.TheVariants.{TooLong, BadToken, BadSyntax, BadProgram, BadForm}
+use Rattle.tdl_top.specs.Sources.{HasTree, HasSyntaxFault, IsRead, IsGood, HaveTrees, AtSource, SayProgram, HaveFault, limit_of}
 use Rattle.tdl_top.specs.Taken.{bundle_for}
 use Rattle.tdl_top.specs.Inputs.{HaveBundle}
 use Rattle.tdl_top.specs.Refused.{ReadsSome, SourceRefused, SourcesRefused}
-use Rattle.tdl_top.proofs.OneSource.{tree_once, program_once, syntax_once, syntax_tree}
+use Rattle.tdl_top.proofs.OneSource.{tree_once, program_once, fault_once, no_fault, syntax_once, syntax_tree}
 
 -- ---- one file
 
@@ -142,10 +142,31 @@ module _ (held : Held) (words : Words) (n : ℕ) where
       HaveTrees (Some held) (words_from words 1 n) ALL_SOURCES_BYTES b → a ≡ b
   trees_same a b x y = trees_once held (words_from words 1 n) ALL_SOURCES_BYTES 1 a b x y
 
+  -- the first fault of the trees of n sources is that of another reading of them
+  fault_same : (a b : List Tree) (w rule line col : ℕ) →
+      HaveTrees (Some held) (words_from words 1 n) ALL_SOURCES_BYTES a →
+      HaveTrees (Some held) (words_from words 1 n) ALL_SOURCES_BYTES b →
+      HaveFault a w rule line col → HaveFault b w rule line col
+  fault_same a b w rule line col x y fault =
+      subst (λ (trees : List Tree). HaveFault trees w rule line col) (trees_same a b x y) fault
+
   -- n sources are refused with one answer at most
   pub sources_once : (s t : Status) → SourcesRefused (Some held) words n s →
       SourcesRefused (Some held) words n t → s ≡ t
   sources_once (BadForm w) (BadForm v) x y = ap BadForm (x.0 ∙ sym y.0)
+  sources_once (BadForm w) (BadProgram v r l c) x y =
+      absurd (no_fault x.1.trees v r l c x.1.obey
+      (fault_same y.trees x.1.trees v r l c y.read x.1.read y.fault))
+  sources_once (BadProgram v r l c) (BadForm w) x y =
+      absurd (no_fault y.1.trees v r l c y.1.obey
+      (fault_same x.trees y.1.trees v r l c x.read y.1.read x.fault))
+  sources_once (BadProgram w r l c) (BadProgram v s m d) x y =
+      let same = fault_once y.trees w r l c v s m d (fault_same x.trees y.trees w r l c x.read y.read x.fault) y.fault in
+      λ i. BadProgram (same.0 i) (same.1 i) (same.2 i) (same.3 i)
+  sources_once (BadProgram w r l c) t x y =
+      absurd (in_turn_good held (words_from words 1 n) ALL_SOURCES_BYTES 1 t x.trees y x.read)
+  sources_once s (BadProgram v r l c) x y =
+      absurd (in_turn_good held (words_from words 1 n) ALL_SOURCES_BYTES 1 s y.trees x y.read)
   sources_once (BadForm w) t x y =
       absurd (in_turn_good held (words_from words 1 n) ALL_SOURCES_BYTES 1 t x.1.trees y x.1.read)
   sources_once s (BadForm v) x y =
@@ -159,6 +180,9 @@ module _ (held : Held) (words : Words) (n : ℕ) where
       x.1.other has.say.program
       (subst (λ (trees : List Tree). SayProgram trees has.say.program)
       (trees_same has.trees x.1.trees has.read x.1.read) has.say.say)
+  sources_have (BadProgram w r l c) b x has =
+      no_fault has.trees w r l c has.say.say.obey
+      (fault_same x.trees has.trees w r l c x.read has.read x.fault)
   sources_have s b x has =
       in_turn_good held (words_from words 1 n) ALL_SOURCES_BYTES 1 s has.trees x has.read
 

@@ -1,5 +1,6 @@
 -- What an answer says, from what its steps say.
 use Rattle.std.proofs.Common.{◌≡◌, ℕ, List, subst, sym, ap, arith, inl, inr, ◌∙◌, Option, Some}
+use Rattle.std.specs.Prelude.{◌≢◌}
 use Rattle.tdl_io.specs.Outside.{Held, HasNamedCause, KeepsOthers, Appends, AppendsPart}
 use Rattle.tdl_io.specs.Told.{FilesTold}
 use Rattle.tdl_scen.specs.declared.entries.Scenario.{Scenario}
@@ -104,3 +105,17 @@ says_part files words out call b w s WriteFailed has leaves word read says =
 says_part files words out call b w s NoMemory has leaves word read says =
     inr (part_done files words out call b w s has leaves word read says)
 says_part files words out call b w s st has leaves word read says = absurd says
+
+-- ---- what a refused save or printing is not
+
+-- a refused save is not Ok
+pub save_not_ok : (files : FilesCall) (name : List ℕ) (at : ℕ) (s : Status) → SaveSays files name at s → s ≢ Ok
+save_not_ok files name at s says = λ e. subst (λ (t : Status). SaveSays files name at t) e says
+
+-- nor is a refused printing
+pub print_not_ok : (out : SinkCall) (text : List ℕ) (s : Status) → PrintSays out text s → s ≢ Ok
+print_not_ok out text s says = λ e. subst (λ (t : Status). PrintSays out text t) e says
+
+-- which is no failed save either
+pub print_no_save : (out : SinkCall) (text : List ℕ) (s : Status) → PrintSays out text s → (w : ℕ) → s ≢ SaveFailed w
+print_no_save out text s says = λ w e. subst (λ (t : Status). PrintSays out text t) e says

@@ -1,15 +1,16 @@
 -- What one load, one reading of its bytes, one save and the printing of a call say.
-use Rattle.std.specs.Prelude.{◌≡◌, ℕ, List, ⊤, Some}
+use Rattle.std.specs.Prelude.{◌≡◌, ℕ, List, [], ⊤, Some}
 use Rattle.tdl_io.specs.Outside.{Rose, HasNamedCause, IsLonger, AppendsPart}
 use Rattle.tdl_mode.specs.declared.program.Program.{Program}
+use Rattle.tdl_rules.specs.Faults.{faults}
 use Rattle.tdl_scan.specs.Tokens.{IsTokenFault}
 use Rattle.tdl_tree.specs.declared.declarations.Tree.{Tree}
 use Rattle.tdl_decode.specs.BundleGrammar.{IsBundleFault}
 use Rattle.tdl_words.specs.Words.{Words, word_at}
 use Rattle.tdl_report.specs.declared.status.Status.{Status}
-use Rattle.tdl_report.specs.declared.status.Status.TheVariants.{LoadFailed, TooLong, BadToken, BadSyntax, WriteFailed, SaveFailed, BadBundle, NoMemory, BadForm}
+use Rattle.tdl_report.specs.declared.status.Status.TheVariants.{LoadFailed, TooLong, BadToken, BadSyntax, BadProgram, WriteFailed, SaveFailed, BadBundle, NoMemory, BadForm}
 use Rattle.tdl_report.specs.Calls.{FilesCall, SinkCall, IsUnchanged}
-use Rattle.tdl_top.specs.Sources.{HasSyntaxFault, SayProgram}
+use Rattle.tdl_top.specs.Sources.{HasSyntaxFault, SayProgram, HaveFault}
 use Rattle.tdl_top.specs.Refused.{SourceRefused, SourcesRefused, IsAskedFirst, IsFailedLoad}
 
 -- what a refusal of a load of the file at word w says, at this limit
@@ -51,9 +52,17 @@ SourcesSay files words n (BadSyntax v line col) = SourcesRefused files.before.ho
 SourcesSay files words n NoMemory = ⊤
 SourcesSay files words n status = ⊥
 
+-- what a refusal of the trees of all sources for the rules says
+abbrev pub RulesSay : List Tree → Status → Type 0
+RulesSay trees (BadProgram w rule line col) = HaveFault trees w rule line col
+RulesSay trees NoMemory = ⊤
+RulesSay trees status = ⊥
+
 -- what a refusal of the trees of all sources says
 abbrev pub FormSays : List Tree → Status → Type 0
-FormSays trees (BadForm w) = (w ≡ 1) × ((program : Program) → SayProgram trees program → ⊥)
+FormSays trees (BadProgram w rule line col) = HaveFault trees w rule line col
+FormSays trees (BadForm w) =
+    (w ≡ 1) × (faults trees ≡ []) × ((program : Program) → SayProgram trees program → ⊥)
 FormSays trees NoMemory = ⊤
 FormSays trees status = ⊥
 

@@ -1,8 +1,9 @@
 -- What the inputs of a call are refused for, and what an answer says of them.
-use Rattle.std.specs.Prelude.{◌≡◌, ℕ, List, ◌⊎◌, ⊤, Option, Some, None}
+use Rattle.std.specs.Prelude.{◌≡◌, ℕ, List, [], ◌⊎◌, ⊤, Option, Some, None}
 use Rattle.tdl_base.specs.declared.limits.TheConstants.{ALL_SOURCES_BYTES, SCENARIO_BYTES, BUNDLE_BYTES}
 use Rattle.tdl_io.specs.Outside.{Held, IsLonger, Rose, HasNamedCause}
 use Rattle.tdl_mode.specs.declared.program.Program.{Program}
+use Rattle.tdl_rules.specs.Faults.{faults}
 use Rattle.tdl_scan.specs.Tokens.{IsTokenFault}
 use Rattle.tdl_scen.specs.declared.entries.Scenario.{Scenario}
 use Rattle.tdl_tree.specs.declared.declarations.Tree.{Tree}
@@ -14,9 +15,9 @@ use Rattle.tdl_verify.specs.Texts.{bundle_names}
 use Rattle.tdl_words.specs.declared.words.Call.{Call}
 use Rattle.tdl_words.specs.Words.{Words, word_at, words_from, source_count, scenario_word}
 use Rattle.tdl_report.specs.declared.status.Status.{Status}
-use Rattle.tdl_report.specs.declared.status.Status.TheVariants.{LoadFailed, TooLong, BadToken, BadSyntax, BadBundle, NoMemory, BadForm}
+use Rattle.tdl_report.specs.declared.status.Status.TheVariants.{LoadFailed, TooLong, BadToken, BadSyntax, BadProgram, BadBundle, NoMemory, BadForm}
 use Rattle.tdl_report.specs.Calls.{FilesCall}
-use Rattle.tdl_top.specs.Sources.{HasSyntaxFault, IsRead, AtSource, SayProgram, limit_of}
+use Rattle.tdl_top.specs.Sources.{HasSyntaxFault, IsRead, AtSource, SayProgram, HaveFault, limit_of}
 use Rattle.tdl_top.specs.Taken.{AreRead}
 use Rattle.tdl_top.specs.Inputs.{IsSpellingOf, HasBundle, IsScenarioOf}
 
@@ -41,14 +42,22 @@ SourceRefused holds status name left w = ⊥
 abbrev pub AmongSources : Option Held → Words → ℕ → (List ℕ → ℕ → ℕ → Type 0) → Type 0
 AmongSources holds words n P = AtSource holds P (words_from words 1 n) ALL_SOURCES_BYTES 1
 
--- they were read, and say no program
+-- they were read, and break a rule, first here
+pub record BreakRule (holds : Option Held) (words : Words) (n w rule line col : ℕ) : Type 0 where
+  pub trees : List Tree
+  pub read : AreRead holds words n trees
+  pub fault : HaveFault trees w rule line col
+
+-- they were read, break no rule, and say no program
 pub record HaveNoProgram (holds : Option Held) (words : Words) (n : ℕ) : Type 0 where
   pub trees : List Tree
   pub read : AreRead holds words n trees
+  pub obey : faults trees ≡ []
   pub other : (program : Program) → SayProgram trees program → ⊥
 
--- they are refused with this answer: one of them is, or they say no program
+-- they are refused with this answer: one of them is, or they break a rule, or they say no program
 abbrev pub SourcesRefused : Option Held → Words → ℕ → Status → Type 0
+SourcesRefused holds words n (BadProgram w rule line col) = BreakRule holds words n w rule line col
 SourcesRefused holds words n (BadForm w) = (w ≡ 1) × HaveNoProgram holds words n
 SourcesRefused holds words n status = AmongSources holds words n (SourceRefused holds status)
 
@@ -131,6 +140,8 @@ InputSays files words call (LoadFailed w) = IsAsked files.before.holds words cal
 InputSays files words call (TooLong w) = IsRefused files.before.holds words call (TooLong w)
 InputSays files words call (BadToken w line col) = IsRefused files.before.holds words call (BadToken w line col)
 InputSays files words call (BadSyntax w line col) = IsRefused files.before.holds words call (BadSyntax w line col)
+InputSays files words call (BadProgram w rule line col) =
+    IsRefused files.before.holds words call (BadProgram w rule line col)
 InputSays files words call (BadBundle rule at) = IsRefused files.before.holds words call (BadBundle rule at)
 InputSays files words call (BadForm w) = IsRefused files.before.holds words call (BadForm w)
 InputSays files words call NoMemory = ⊤

@@ -1,4 +1,4 @@
--- What a source is, how sources are read one after the other, and what program they say.
+-- What a source is, how sources are read one after the other, what program they say, and which rule they break first.
 use Rattle.std.specs.Prelude.{◌≡◌, ◌≤◌, ◌<◌, ◌-◌, ◌⊎◌, ℕ, suc, min, List, [], ◌∷◌, length, ⊤, Option, All}
 use Rattle.tdl_base.specs.declared.limits.TheConstants.{SOURCE_BYTES}
 use Rattle.tdl_io.specs.Outside.{Held, Reads}
@@ -9,6 +9,8 @@ use Rattle.tdl_tree.specs.declared.declarations.Tree.{Tree}
 use Rattle.tdl_tree.specs.Sentences.{Sentence}
 use Rattle.tdl_parse.specs.Words.{words_of}
 use Rattle.tdl_parse.specs.Faults.{IsFaultAt}
+use Rattle.tdl_rules.specs.Earliest.{IsFirst}
+use Rattle.tdl_rules.specs.Faults.{faults}
 use Rattle.tdl_plain.specs.Says.{Says}
 
 -- ---- one source
@@ -62,8 +64,15 @@ AtSource holds P (name ∷ names) left w =
 
 -- ---- the program
 
--- the trees of all sources say this program: there is one tree, and it says it
+-- the trees of all sources say this program: they break no rule, there is one tree, and it says it
 pub record SayProgram (trees : List Tree) (program : Program) : Type 0 where
+  pub obey : faults trees ≡ []
   pub tree : Tree
   pub only : trees ≡ tree ∷ []
   pub says : Says tree program
+
+-- of all places at which the trees break a rule this is the first; the first source stands at word 1
+pub record HaveFault (trees : List Tree) (w rule line col : ℕ) : Type 0 where
+  pub file : ℕ
+  pub word : w ≡ suc file
+  pub first : IsFirst (record { rule = rule; file = file; line = line; col = col }) (faults trees)

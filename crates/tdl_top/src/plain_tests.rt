@@ -4,6 +4,7 @@ use crate::cases::{COMPILE, Case, compiled, files_of, refused, strings, try_case
 use crate::samples::SOURCE;
 use crate::{Status, tdl};
 use std::alloc::{AllocError, Global};
+use std::process::Abort;
 use std::test::Fail;
 use tdl_io::MemSink;
 
@@ -78,42 +79,96 @@ const PLAIN: [(&str, &[(&str, &str)]); 14] = [
     ),
 ];
 
-/// Changes that leave it no plain one: other sentences, equal names, and numbers out of their
-/// ranges.
-const OTHERS: [(&str, &[(&str, &str)]); 16] = [
+/// Changes that leave it lawful, and no plain one.
+const OTHERS: [(&str, &[(&str, &str)]); 4] = [
     ("frequency 2", &[("freq=1", "freq=2")]),
-    ("the sensor added", &[("o + a", "o + s")]),
     ("a difference", &[("o + a", "o - a")]),
     ("a task that is not public", &[("public task", "task")]),
-    (
-        "two invocations",
-        &[("inc(s);", "inc(s); task [freq=1] inc(s);")],
-    ),
-    ("the task named like the sensor", &[("inc", "s")]),
-    (
-        "the sensor named like the mode",
-        &[("int s", "int main"), ("(s)", "(main)")],
-    ),
-    ("the task named like the mode", &[("inc", "main")]),
-    (
-        "the output named like the input",
-        &[("int o", "int a"), ("o := o + a", "a := a + a")],
-    ),
-    ("no worst case", &[("200us", "0us")]),
-    ("a worst case above the period", &[("200us", "5001us")]),
-    ("no period", &[("200us", "1us"), ("5ms", "0ms")]),
-    (
-        "a worst case above the greatest period",
-        &[("200us", "10000001us"), ("5ms", "10000ms")],
-    ),
-    ("a period above the greatest", &[("5ms", "10001ms")]),
     (
         "an initial number above the greatest",
         &[(":= 10", ":= 2147483648")],
     ),
+];
+
+/// Changes that break a rule, with the rule, its line and column, and what is said.
+const BROKEN: [(&[(&str, &str)], u8, u32, u32, &str); 12] = [
+    (&[("inc", "s")], 1, 3, 15, "tdl: program C1 at P.tdl:3:15\n"),
     (
-        "a worst case past 64 bits",
+        &[("int s", "int main"), ("(s)", "(main)")],
+        1,
+        8,
+        14,
+        "tdl: program C1 at P.tdl:8:14\n",
+    ),
+    (
+        &[("inc", "main")],
+        1,
+        8,
+        14,
+        "tdl: program C1 at P.tdl:8:14\n",
+    ),
+    (
+        &[("int o", "int a"), ("o := o + a", "a := a + a")],
+        1,
+        5,
+        16,
+        "tdl: program C1 at P.tdl:5:16\n",
+    ),
+    (
+        &[("o + a", "o + s")],
+        3,
+        6,
+        14,
+        "tdl: program C3 at P.tdl:6:14\n",
+    ),
+    (
+        &[("200us", "1us"), ("5ms", "0ms")],
+        9,
+        8,
+        27,
+        "tdl: program C9 at P.tdl:8:27\n",
+    ),
+    (
+        &[("5ms", "10001ms")],
+        9,
+        8,
+        27,
+        "tdl: program C9 at P.tdl:8:27\n",
+    ),
+    (
+        &[("inc(s);", "inc(s); task [freq=1] inc(s);")],
+        13,
+        9,
+        41,
+        "tdl: program C13 at P.tdl:9:41\n",
+    ),
+    (
+        &[("200us", "0us")],
+        17,
+        3,
+        25,
+        "tdl: program C17 at P.tdl:3:25\n",
+    ),
+    (
+        &[("200us", "5001us")],
+        17,
+        9,
+        19,
+        "tdl: program C17 at P.tdl:9:19\n",
+    ),
+    (
+        &[("200us", "10000001us"), ("5ms", "10000ms")],
+        17,
+        3,
+        25,
+        "tdl: program C17 at P.tdl:3:25\n",
+    ),
+    (
         &[("200us", "18446744073709551816us")],
+        17,
+        3,
+        25,
+        "tdl: program C17 at P.tdl:3:25\n",
     ),
 ];
 
@@ -154,6 +209,37 @@ fn other_sources_are_not(rt: HostRuntime) -> Result<(), Fail> {
             ..refused(Status::BadForm { word: 1 }, "tdl: form P.tdl\n")
         };
         try_case(&rt, rt.alloc(), &case)?;
+    }
+    Ok(())
+}
+
+// A changed source that is refused.
+fn try_changed(
+    rt: &impl Abort,
+    alloc: Global,
+    changes: &[(&str, &str)],
+    status: Status,
+    err: &str,
+) -> Result<(), Fail> {
+    let source = changed(alloc, changes)?;
+    let case = Case {
+        words: &COMPILE,
+        source: Some(source.as_str()),
+        ..refused(status, err)
+    };
+    try_case(rt, alloc, &case)
+}
+
+#[test]
+fn sources_that_break_a_rule_are_not(rt: HostRuntime) -> Result<(), Fail> {
+    for (changes, rule, line, col, err) in BROKEN {
+        let status = Status::BadProgram {
+            word: 1,
+            rule,
+            line,
+            col,
+        };
+        try_changed(&rt, rt.alloc(), changes, status, err)?;
     }
     Ok(())
 }

@@ -1,5 +1,6 @@
-ghost use Rattle.std.specs.Prelude.{◌≡◌, ◌≤◌, Some, IfOk, IfErr, length};
-ghost use Rattle.tdl_base.specs.declared.limits.TheConstants.{SOURCE_BYTES};
+ghost use Rattle.std.specs.Prelude.{◌≡◌, ◌≤◌, [], Some, OnOk, IfOk, IfErr, length};
+ghost use Rattle.tdl_base.specs.declared.limits.TheConstants.{SOURCES, SOURCE_BYTES};
+ghost use Rattle.tdl_rules.specs.Faults.{faults};
 ghost use Rattle.tdl_scan.specs.Tokens.{IsTokensOf};
 ghost use Rattle.tdl_make.specs.PlainBundle.{IsPlainBundle};
 ghost use Rattle.tdl_words.specs.declared.words.Call.{Call};
@@ -9,12 +10,13 @@ ghost use Rattle.tdl_top.specs.Sources.{HasTree, IsGood, limit_of};
 ghost use Rattle.tdl_top.specs.Taken.{AreRead, SayBundle};
 ghost use Rattle.tdl_top.specs.Inputs.{HaveBundle};
 ghost use Rattle.tdl_top.specs.Refused.{InputSays};
-ghost use Rattle.tdl_top.specs.Loads.{ParseSays, ScanSays, SourceSays, SourcesSay, FormSays};
+ghost use Rattle.tdl_top.specs.Loads.{ParseSays, ScanSays, SourceSays, SourcesSay, RulesSay, FormSays};
 
 use crate::load::load;
 use std::alloc::Global;
 use tdl_base::Listed;
 use tdl_base::limits::{ALL_SOURCES_BYTES, SOURCE_BYTES};
+use tdl_check::{CheckError, check};
 use tdl_image::Bundle;
 use tdl_io::Files;
 use tdl_make::plain_bundle;
@@ -116,12 +118,32 @@ fn read_trees<F: Files>(
     Ok(trees)
 }
 
+// Refuses the trees of all sources where they break a rule of programs.
+fn keep_rules(alloc: Global, trees: &[Tree]) -> Result<(), Status>
+    requires { length trees.now ≤ SOURCES }
+    ensures ok { OnOk result (faults trees.now ≡ []) }
+    ensures refused { IfErr result (RulesSay trees.now) }
+{
+    match check(alloc, trees) {
+        Ok(_program) => Ok(()),
+        Err(CheckError::BadProgram(fault)) => Err(Status::BadProgram {
+            word: FILE_WORD + fault.file as usize,
+            rule: fault.rule,
+            line: fault.line,
+            col: fault.col,
+        }),
+        Err(CheckError::NoMemory) => Err(Status::NoMemory),
+    }
+}
+
 // The bundle of the trees of all sources.
 fn bundle_of(alloc: Global, trees: &[Tree]) -> Result<Bundle, Status>
+    requires { length trees.now ≤ SOURCES }
     ensures ok { IfOk result (SayBundle trees.now) }
     ensures plain { IfOk result (λ bundle. IsPlainBundle bundle) }
     ensures refused { IfErr result (FormSays trees.now) }
 {
+    keep_rules(alloc, trees)?;
     if trees.len() != 1 {
         return Err(Status::BadForm { word: FILE_WORD });
     }
@@ -139,6 +161,7 @@ pub fn read_sources<F: Files>(
     words: &[String],
     count: usize,
 ) -> Result<Bundle, Status>
+    requires { count ≤ SOURCES }
     ensures ok { IfOk result (HaveBundle (F.told files.old).holds (texts words.now) count) }
     ensures plain { IfOk result (λ bundle. IsPlainBundle bundle) }
     ensures refused { (call : Call) → source_count call ≡ Some count → IfErr result

@@ -33,19 +33,60 @@ fn syntax(word: usize, line: u32, col: u32) -> Status {
     Status::BadSyntax { word, line, col }
 }
 
+const LAWFUL_Q: &str = "module Q { start mode m [period=1ms] { } }";
+
+const LAWFUL_R: &str = "module R { start mode m [period=1ms] { } }";
+
 #[test]
 fn good_sources_that_are_not_one_are_of_another_form(rt: HostRuntime) -> Result<(), Fail> {
     let form = Status::BadForm { word: 1 };
-    let twice = ["run", "P.tdl", "P.tdl", "--out", "b", "--scen", "s"];
     let cases = [
-        with_others(&TWO, &[("Q.tdl", "module Q {}")], form, "tdl: form P.tdl\n"),
+        with_others(&TWO, &[("Q.tdl", LAWFUL_Q)], form, "tdl: form P.tdl\n"),
         with_others(
             &THREE,
-            &[("Q.tdl", "module Q {}"), ("R.tdl", "module R {}")],
+            &[("Q.tdl", LAWFUL_Q), ("R.tdl", LAWFUL_R)],
             form,
             "tdl: form P.tdl\n",
         ),
-        with_others(&twice, &[], form, "tdl: form P.tdl\n"),
+    ];
+    for case in cases.iter() {
+        try_case(&rt, rt.alloc(), case)?;
+    }
+    Ok(())
+}
+
+fn rule(word: usize, rule: u8, line: u32, col: u32) -> Status {
+    Status::BadProgram {
+        word,
+        rule,
+        line,
+        col,
+    }
+}
+
+#[test]
+fn the_first_broken_rule_is_told(rt: HostRuntime) -> Result<(), Fail> {
+    let twice = ["run", "P.tdl", "P.tdl", "--out", "b", "--scen", "s"];
+    let cases = [
+        with_others(
+            &TWO,
+            &[("Q.tdl", "module Q { }")],
+            rule(2, 12, 1, 8),
+            "tdl: program C12 at Q.tdl:1:8\n",
+        ),
+        // The source comes before the place.
+        with_others(
+            &THREE,
+            &[("Q.tdl", "module\nQ { }"), ("R.tdl", "module R { }")],
+            rule(2, 12, 2, 1),
+            "tdl: program C12 at Q.tdl:2:1\n",
+        ),
+        with_others(
+            &twice,
+            &[],
+            rule(2, 1, 1, 8),
+            "tdl: program C1 at P.tdl:1:8\n",
+        ),
     ];
     for case in cases.iter() {
         try_case(&rt, rt.alloc(), case)?;
@@ -115,6 +156,13 @@ fn with_first<'a>(first: &'a str, status: Status, err: &'a str) -> Case<'a> {
         source: Some(first),
         ..with_others(&TWO, &[], status, err)
     }
+}
+
+#[test]
+fn a_broken_rule_hides_nothing_of_the_next(rt: HostRuntime) -> Result<(), Fail> {
+    let absent = Status::LoadFailed { word: 2 };
+    let case = with_first("module M { }", absent, "tdl: cannot load Q.tdl\n");
+    try_case(&rt, rt.alloc(), &case)
 }
 
 #[test]

@@ -97,6 +97,14 @@ fn a_source_is_a_sentence(rt: HostRuntime) -> Result<(), Fail> {
     Ok(())
 }
 
+// That its module has no start mode.
+const NO_START: Status = Status::BadProgram {
+    word: 1,
+    rule: 12,
+    line: 1,
+    col: 8,
+};
+
 // A module with a task whose body is `begin`, `times` times `part`, `middle` and `times` times
 // `close`.
 fn task_of(
@@ -128,7 +136,7 @@ fn expressions_have_a_length(rt: HostRuntime) -> Result<(), Fail> {
         Case {
             words: &COMPILE,
             source: Some(long.as_str()),
-            ..refused(Status::BadForm { word: 1 }, "tdl: form P.tdl\n")
+            ..refused(NO_START, "tdl: program C12 at P.tdl:1:8\n")
         },
         no_sentence(longer.as_str(), 1, 1061, "tdl: syntax at P.tdl:1:1061\n"),
     ];
@@ -146,7 +154,7 @@ fn blocks_have_a_depth(rt: HostRuntime) -> Result<(), Fail> {
         Case {
             words: &COMPILE,
             source: Some(deep.as_str()),
-            ..refused(Status::BadForm { word: 1 }, "tdl: form P.tdl\n")
+            ..refused(NO_START, "tdl: program C12 at P.tdl:1:8\n")
         },
         no_sentence(deeper.as_str(), 1, 217, "tdl: syntax at P.tdl:1:217\n"),
     ];

@@ -1,4 +1,5 @@
-ghost use Rattle.std.specs.Prelude.{◌≡◌, ◌≢◌, ◌⊎◌, ◌↔◌, ℕ, OnOk, IfErr, Some, None};
+ghost use Rattle.std.specs.Prelude.{◌≡◌, ◌≢◌, ◌≤◌, ◌⊎◌, ◌↔◌, ℕ, OnOk, IfErr, Some, None};
+ghost use Rattle.tdl_base.specs.declared.limits.TheConstants.{SOURCES};
 ghost use Rattle.tdl_io.specs.Outside.{Held};
 ghost use Rattle.tdl_report.specs.declared.status.Status.{Status};
 ghost use Rattle.tdl_words.specs.declared.words.Call.{Call};
@@ -28,6 +29,7 @@ fn compile_sources<F: Files, E: Sink>(
     files: &mut F,
     err: &mut E,
 ) -> Result<(), Status>
+    requires { count ≤ SOURCES }
     ensures ok { (out : SinkCall) → IsSilent out → OnOk result (AnswerSaysOf
         (files_call F.told files.old files.new) (texts words.now) out
         (Call.Compile count place) Status.Ok) }
@@ -54,6 +56,7 @@ fn run_sources<F: Files, O: Sink, E: Sink>(
     out: &mut O,
     err: &mut E,
 ) -> Result<(), Status>
+    requires { count ≤ SOURCES }
     ensures ok { OnOk result (AnswerSaysOf (files_call F.told files.old files.new)
         (texts words.now) (sink_call O.told out.old out.new) (Call.Run count place at) Status.Ok) }
     ensures refused { IfErr result (AnswerSaysOf (files_call F.told files.old files.new)
@@ -154,7 +157,8 @@ fn answer<F: Files, O: Sink, E: Sink>(
 /// scheduled; of a program what is printed is the text of its logical rows.
 ///
 /// The sources are read one after the other; each has at most 262,144 bytes, and all together have
-/// at most 1,048,576. The form of several sources is refused, and that of one that is not plain.
+/// at most 1,048,576. The first place is told at which they break a rule of programs. The form of
+/// several sources is refused, and that of one that is not plain.
 /// The scenario is plain and has at most 4,194,304 bytes; the bundle is that of a plain program and
 /// has at most 67,108,864. The rows go up to the scenario's horizon in microseconds and with it,
 /// each line put on `out` in one piece. Every other answer than Ok puts its line on `err`. NoMemory

@@ -41,8 +41,13 @@ fn try_count(
 
 #[test]
 fn there_are_up_to_64_sources(rt: HostRuntime) -> Result<(), Fail> {
-    let form = Status::BadForm { word: 1 };
-    try_count(&rt, rt.alloc(), 64, form, "tdl: form P.tdl\n")?;
+    let twice = Status::BadProgram {
+        word: 2,
+        rule: 1,
+        line: 1,
+        col: 8,
+    };
+    try_count(&rt, rt.alloc(), 64, twice, "tdl: program C1 at P.tdl:1:8\n")?;
     try_count(&rt, rt.alloc(), 65, Status::Usage, "tdl: usage\n")
 }
 

@@ -1,2 +1,3 @@
+pub mod FewSources
 mod Reading
 mod TakenWords

@@ -1,8 +1,9 @@
-//! Laws of the words. The function does nothing: its contract is the law.
-ghost use Rattle.std.specs.Prelude.{◌≡◌, ◌+◌, ◌<◌, List, [], ◌∷◌, ◌++◌, ℕ, Some, None, IsTrue, length, codes};
+//! Laws of the words. Each function does nothing: its contract is the law.
+ghost use Rattle.std.specs.Prelude.{◌≡◌, ◌+◌, ◌<◌, ◌≤◌, List, [], ◌∷◌, ◌++◌, ℕ, Some, None, IsTrue, length, codes};
 ghost use Rattle.tdl_base.specs.declared.limits.TheConstants.{SOURCES};
+ghost use Rattle.tdl_words.specs.declared.words.Call.{Call};
 ghost use Rattle.tdl_words.specs.declared.words.Call.TheVariants as call;
-ghost use Rattle.tdl_words.specs.Words.{Words, AreSources, is_file, call_in, files_in};
+ghost use Rattle.tdl_words.specs.Words.{Words, AreSources, is_file, call_in, files_in, source_count};
 
 /// `compile` and `run` take from 1 to 64 sources and their options, those of `run` in both orders,
 /// and no more; `exec` takes one file.
@@ -22,4 +23,10 @@ pub fn words_of_calls()
         → call_in (codes "exec" ∷ file ∷ codes "--scen" ∷ scenario ∷ []) ≡ Some (call.Exec 3) }
     ensures too_many { (words : Words) → SOURCES < files_in words
         → call_in (codes "compile" ∷ words) ≡ None × call_in (codes "run" ∷ words) ≡ None }
+{}
+
+/// A call names no more sources than a command takes.
+pub fn few_sources()
+    ensures { (words : Words) (call : Call) (n : ℕ) → call_in words ≡ Some call
+        → source_count call ≡ Some n → n ≤ SOURCES }
 {}

@@ -1,5 +1,5 @@
 -- Group by group.
-use Rattle.std.proofs.Common.{◌≡◌, ◌++◌, None, ◌∙◌}
+use Rattle.std.proofs.Common.{◌++◌, None, ◌∙◌}
 use Rattle.tdl_base.specs.Lists.{joined}
 use Rattle.tdl_check.specs.Groups as groups
 use Rattle.tdl_rules.specs.BoundRules.{c21}

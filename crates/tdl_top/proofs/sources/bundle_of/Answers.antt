@@ -7,5 +7,5 @@ use Rattle.tdl_top.proofs.sources.bundle_of.Goals as goal
 pub returns-in_ok-plain_bundle-in-Ok-clause-ok : goal.returns-in_ok-plain_bundle-in-Ok-clause-ok
 returns-in_ok-plain_bundle-in-Ok-clause-ok c =
     subst (λ (b : Bundle). SayBundle c.args.trees.now b) (sym c.in_ok-plain_bundle-in-Ok.ensures)
-    (plain_says c.in-Ok.form c.args.trees.now c.index-trees-0.result c.if-trees-ne1.false c.index-trees-0.is
+    (plain_says c.in-Ok.form c.args.trees.now c.index-trees-0.result c.in_ok-keep_rules.ensures.ok c.if-trees-ne1.false c.index-trees-0.is
     c.in-Ok.ensures.plain)

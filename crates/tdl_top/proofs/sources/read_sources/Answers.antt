@@ -1,10 +1,12 @@
-use Rattle.std.proofs.Common.{List, subst}
+use Rattle.std.proofs.Common.{◌≤◌, ℕ, List, length, subst, sym}
 use Rattle.std.proofs.lemmas.Result.{err_from_is_err_and, IfOk-weaker, IfErr-weaker}
+use Rattle.tdl_base.specs.declared.limits.TheConstants.{SOURCES}
 use Rattle.tdl_tree.specs.declared.declarations.Tree.{Tree}
 use Rattle.tdl_words.specs.Words.{texts}
 use Rattle.tdl_report.specs.Calls.{files_call}
 use Rattle.tdl_top.specs.Loads.{FormSays}
 use Rattle.tdl_top.specs.Taken.{SayBundle}
+use Rattle.tdl_top.proofs.InTurn.{read_count}
 use Rattle.tdl_top.proofs.InputsSay.{sources_input, form_input}
 use Rattle.tdl_top.proofs.sources.read_sources.Goals as goal
 
@@ -14,6 +16,13 @@ returns-in_err-trees-clause-refused g c = λ call is.
     rw (p.1, p.2)
     (sources_input (files_call g.F.Files.told c.args.files.now c.read_trees.new.files) (texts c.args.words.now) call
     c.args.count c.in_err-trees.field-0.0 is c.in_err-trees.ensures.refused)
+
+pub bundle_of-requires : goal.bundle_of-requires
+bundle_of-requires g c =
+    let counted = read_count (g.F.Files.told c.args.files.now).holds (texts c.args.words.now) c.args.count
+    c.in_ok-trees.trees c.in_ok-trees.ensures.ok in
+    subst (λ (trees : List Tree). length trees ≤ SOURCES) (sym c.as_slice.ensures)
+    (subst (λ (n : ℕ). n ≤ SOURCES) (sym counted) c.requires)
 
 pub returns-clause-ok : goal.returns-clause-ok
 returns-clause-ok g c =

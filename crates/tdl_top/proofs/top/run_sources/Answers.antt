@@ -2,9 +2,11 @@ use Rattle.std.proofs.Common.{refl, ◌∙◌}
 use Rattle.std.proofs.lemmas.Result.{err_from_is_err_and, on_ok_weaker, IfErr-weaker}
 use Rattle.tdl_make.proofs.Spelled.{plain_spellable}
 use Rattle.tdl_words.specs.declared.words.Call.TheVariants.{Run}
+use Rattle.tdl_words.specs.Words.{texts, word_at}
+use Rattle.tdl_report.specs.Calls.{files_call}
 use Rattle.tdl_top.proofs.Loading.{loads_then}
 use Rattle.tdl_top.proofs.InputsSay.{says_earlier, input_not_ok, input_no_save, scenario_since, bundle_still}
-use Rattle.tdl_top.proofs.Saying.{says_input, says_save, says_done, says_part, others_since}
+use Rattle.tdl_top.proofs.Saying.{says_input, says_save, says_done, says_part, others_since, save_not_ok, print_not_ok, print_no_save}
 use Rattle.tdl_top.proofs.Reported.{told_quiet}
 use Rattle.tdl_top.proofs.top.run_sources.Goals as goal
 
@@ -111,3 +113,31 @@ returns-clause-refused g c =
     (scenario_since (g.F.Files.told c.args.files.now) (g.F.Files.told c.read_sources.new.files) _ _ _ _
     c.read_sources.ensures.loads c.in_ok-scenario.ensures.ok) says)
     c.print_run.ensures.refused
+
+pub returns-in_err-save_bundle-clause-not_ok : goal.returns-in_err-save_bundle-clause-not_ok
+returns-in_err-save_bundle-clause-not_ok g c =
+    let p = err_from_is_err_and c.from_residual-in_err-save_bundle.result c.from_residual-in_err-save_bundle.ensures.1
+    in
+    rw (p.1, p.2)
+    (save_not_ok (files_call g.F.Files.told c.read_scenario.new.files c.save_bundle.new.files)
+    (word_at (texts c.args.words.now) c.args.place) c.args.place _ c.in_err-save_bundle.ensures.refused)
+
+pub returns-in_err-save_bundle-clause-told : goal.returns-in_err-save_bundle-clause-told
+returns-in_err-save_bundle-clause-told g c =
+    let p = err_from_is_err_and c.from_residual-in_err-save_bundle.result c.from_residual-in_err-save_bundle.ensures.1
+    in
+    rw (p.1, p.2) c.in_err-save_bundle.ensures.told
+
+pub returns-clause-not_ok : goal.returns-clause-not_ok
+returns-clause-not_ok g c =
+    IfErr-weaker c.print_run.result _ _ (λ status says. print_not_ok _ _ status says) c.print_run.ensures.refused
+
+pub returns-clause-told : goal.returns-clause-told
+returns-clause-told g c =
+    IfErr-weaker c.print_run.result _ _ (λ status says.
+    told_quiet _ _ status (print_no_save _ _ status says) c.in_ok-save_bundle.ensures.quiet)
+    c.print_run.ensures.refused
+
+pub returns-clause-quiet : goal.returns-clause-quiet
+returns-clause-quiet g c =
+    on_ok_weaker c.print_run.result (λ printed. c.in_ok-save_bundle.ensures.quiet) c.print_run.ensures.ok

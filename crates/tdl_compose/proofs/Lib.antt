@@ -1,0 +1,4 @@
+pub mod Weights
+pub mod Bounded
+pub mod Numbering
+pub mod ModuleList

@@ -1,0 +1,8 @@
+-- The constants so far with those of the declarations that are left are all.
+use Rattle.std.proofs.Common.{◌≡◌, ◌++◌, drop}
+use Rattle.tdl_rules.specs.Lists.{each}
+use Rattle.tdl_program.specs.Programs.{constants_in}
+use Rattle.tdl_compose.proofs.declarations.constants_of.Given as goal
+
+abbrev pub invariant-loop-decl : goal.invariant-loop-decl
+invariant-loop-decl l = l.list ++ each constants_in (drop l.decl-index l.decls) ≡ each constants_in l.decls

@@ -1,0 +1,5 @@
+pub mod Placing
+pub mod Counted
+pub mod Kept
+pub mod Made
+pub mod ExampleSources

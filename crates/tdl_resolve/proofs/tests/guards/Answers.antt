@@ -1,0 +1,13 @@
+use Rattle.std.proofs.Common.{sym, ap, ◌∙◌, subst}
+use Rattle.tdl_rules.specs.Faults.{faults}
+use Rattle.tdl_resolve.specs.Standing.{Stands}
+use Rattle.tdl_resolve.proofs.Kept.{stands}
+use Rattle.tdl_resolve.proofs.tests.guards.Goals as goal
+
+pub numbers_of-requires : goal.numbers_of-requires
+numbers_of-requires c = ap faults (c.in_ok-sources.ensures ∙ c.as_slice.ensures) ∙ c.in_ok-trees.ensures.kept
+
+pub guard_of-requires : goal.guard_of-requires
+guard_of-requires c =
+    subst (λ sources. Stands sources c.in-Some.scope) (sym c.in_ok-numbers.ensures)
+    (stands c.in_ok-sources.sources 1 c.in-Some.scope (sym c.in-Some.ensures))

@@ -1,0 +1,5 @@
+pub mod Counting
+pub mod Numbered
+pub mod Standing
+pub mod Within
+pub mod Examples

@@ -1,0 +1,10 @@
+-- What the tables of numbers hold.
+use Rattle.std.specs.Prelude.{◌≡◌, ◌≤◌, [], length, map}
+use Rattle.tdl_rules.specs.Faults.{faults}
+use Rattle.tdl_resolve.specs.declared.numbers.Numbers.TheInside.{Inside}
+
+-- each source has its row, no rule is broken, and each source has a number of 16 bits
+pub record IsNumbered (n : Inside) : Type 0 where
+  pub rows : n.rows ≡ map (λ tree. tree.decls) n.sources.now
+  pub kept : faults n.sources.now ≡ []
+  pub few : length n.sources.now ≤ 65535

@@ -1,0 +1,9 @@
+pub mod Plants
+pub mod KindRanges
+pub mod Looked
+pub mod Tables
+pub mod Entries
+pub mod Rules
+pub mod ReadScenario
+pub mod Building
+pub mod LawfulScenario
