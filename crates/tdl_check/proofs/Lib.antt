@@ -1,3 +1,6 @@
 mod Members
 mod Joining
 mod Facts
+mod Files
+mod FilesOfRules
+mod FilesOfFaults

@@ -1,12 +1,11 @@
 ghost use Rattle.std.specs.Prelude.{◌≡◌};
-ghost use Rattle.tdl_mode.specs.WellFormed.{WellFormed};
-ghost use Rattle.tdl_program.specs.KeepsLimits.{AllKeepLimits};
+ghost use Rattle.tdl_check.specs.IsChecked.{IsChecked};
 
 use std::marker::Model;
 use tdl_mode::Program;
 
-/// A program that sources say which break no rule: it is well-formed, and keeps the limits of its
-/// parts.
+/// A program that sources say which break no rule, at most 64: it is well-formed, keeps the limits
+/// of its parts, the bounds of its bodies and the counts, and its names differ.
 #[derive(Debug, Drop)]
 pub struct Checked {
     pub(crate) program: Program,
@@ -15,8 +14,7 @@ pub struct Checked {
 impl Model for Checked {
     ghost use Rattle.tdl_mode.specs.declared.program.Program.{Program as Said};
     ghost use Rattle.tdl_mode.specs.contracts.program.Program.{the_row};
-    ghost use Rattle.tdl_mode.specs.WellFormed.{WellFormed};
-    ghost use Rattle.tdl_program.specs.KeepsLimits.{AllKeepLimits};
+    ghost use Rattle.tdl_check.specs.IsChecked.{IsChecked};
 
     ghost Value = { Said };
 
@@ -24,15 +22,14 @@ impl Model for Checked {
 
     ghost view = { λ c. c.program };
 
-    ghost invariant = { λ c. WellFormed c.program × AllKeepLimits c.program };
+    ghost invariant = { λ c. IsChecked c.program };
 }
 
 impl Checked {
     /// The program.
     pub fn program(&self) -> &Program
         ensures same { result.now ≡ self.now }
-        ensures well_formed { WellFormed result.now }
-        ensures limits { AllKeepLimits result.now }
+        ensures facts { IsChecked result.now }
     {
         &self.program
     }

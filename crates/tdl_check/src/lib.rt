@@ -5,6 +5,7 @@
 mod checked;
 mod checking;
 mod error;
+pub mod laws;
 mod rules;
 
 pub use checked::Checked;

@@ -13,10 +13,11 @@ use Rattle.tdl_tree.specs.declared.names.Time.{Time}
 use Rattle.tdl_rules.specs.declared.fault.Fault.{Fault}
 use Rattle.tdl_rules.specs.Lists.{each}
 use Rattle.tdl_rules.specs.Naming.{Scope}
-use Rattle.tdl_rules.specs.Parts.{modules, broken, spot_of_activity, spot_of_number, fault_if, in_declarations}
+use Rattle.tdl_tree.specs.declared.statements.StmtTree.TheViews.{out-StmtTree}
+use Rattle.tdl_rules.specs.Parts.{at_statements, modules, broken, spot_of_activity, spot_of_number, fault_if, in_declarations}
 use Rattle.tdl_rules.specs.Times.{time_us, in_ten_seconds, divides, bad_range, occurs}
 use Rattle.tdl_rules.specs.ModeRules.{c9_declaration, c10_activity, c11_activity, bad_at, is_worst_case, c17_declaration}
-use Rattle.tdl_rules.specs.BoundRules.{count_of, counted}
+use Rattle.tdl_rules.specs.BoundRules.{c18_statement, count_of, counted}
 use Rattle.tdl_program.specs.Ordinals.{declarations_of}
 use Rattle.tdl_program.proofs.Emptiness.{empty-parts}
 use Rattle.tdl_program.proofs.Faultless.{Faultless, faultless}
@@ -24,6 +25,7 @@ use Rattle.tdl_program.proofs.Meant.{no-fault}
 use Rattle.tdl_program.proofs.Scopes.{ModeIn, scope_at, at_declaration, at_activity}
 use Rattle.tdl_resolve.specs.Standing.{Stands}
 use Rattle.tdl_resolve.proofs.Kept.{stands, few_ports_of}
+use Rattle.tdl_resolve.proofs.Turns.{turns-kept}
 use Rattle.tdl_compose.specs.Bounds.{KeepsBounds, IsFaultless}
 use Rattle.tdl_compose.proofs.Weights.{counted_once, within_limit, weight-at, no_more, weight}
 
@@ -132,6 +134,10 @@ keeps_bounds sources scope home j (decl.Task public name worst ports body) decla
   short_worst sources scope home j worst (decl.Task public name worst ports body) declared refl,
   few_ports_of sources scope.file j scope.tree (decl.Task public name worst ports body) home.kept
       (scope_stands sources scope home).there declared,
+  turns-kept (record (scope_at sources scope.file scope.tree) { body = Some ports }) body
+      (at_declaration (at_statements (λ scope statement. c18_statement scope (out-StmtTree statement))) sources scope.file
+      scope.tree j (decl.Task public name worst ports body) (faultless sources home.kept).turns
+      (scope_stands sources scope home).there declared),
 )
 keeps_bounds sources scope home j (decl.Mode start name period acts) declared = (
   short_period sources scope home j start name period acts declared,

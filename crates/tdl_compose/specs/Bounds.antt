@@ -8,10 +8,12 @@ use Rattle.tdl_rules.specs.Faults.{faults}
 use Rattle.tdl_rules.specs.Naming.{Scope}
 use Rattle.tdl_rules.specs.Parts.{modules}
 use Rattle.tdl_rules.specs.Times.{time_us}
+use Rattle.tdl_resolve.specs.Turns.{KeepsTurns}
 
--- a task has a short worst case and few ports, a mode a short period and few activities
+-- a task has a short worst case, few ports and few turns, a mode a short period and few activities
 abbrev pub KeepsBounds : Decl → Type 0
-KeepsBounds (decl.Task public name worst ports body) = (time_us worst ≤ PERIOD_US) × (length ports ≤ PORTS)
+KeepsBounds (decl.Task public name worst ports body) =
+    (time_us worst ≤ PERIOD_US) × (length ports ≤ PORTS) × KeepsTurns body
 KeepsBounds (decl.Mode start name period acts) = (time_us period ≤ PERIOD_US) × (length acts ≤ OCCURRENCES)
 KeepsBounds _ = Unit {0}
 

@@ -6,6 +6,7 @@ ghost use Rattle.tdl_program.specs.Activities as activities;
 ghost use Rattle.tdl_program.specs.Expressions as expressions;
 ghost use Rattle.tdl_program.specs.Bodies as bodies;
 ghost use Rattle.tdl_program.specs.Programs as programs;
+ghost use Rattle.tdl_resolve.specs.Turns.{KeepsTurns};
 ghost use Rattle.tdl_compose.specs.Bounds.{KeepsBounds};
 
 use crate::starts::first_start;
@@ -148,14 +149,15 @@ impl<'c, 'b, 'a> Home<'c, 'b, 'a> {
         guard_of(alloc, self.numbers, &self.scope, guard)
     }
 
-    /// The body of a task with these ports.
+    /// The body of a task with these ports, of which no `repeat` takes more turns than it may.
     pub(crate) fn body(
         &self,
         alloc: Global,
         ports: &Ports,
         statements: &[StmtTree],
     ) -> Result<Body, NoMemory>
-        requires { length ports.now ≤ PORTS }
+        requires few { length ports.now ≤ PORTS }
+        requires turns { KeepsTurns statements.now }
         ensures { IfOk result (λ made. made ≡ bodies.body_of self.now ports.now statements.now) }
     {
         body_of(alloc, self.numbers, &self.scope, ports, statements)

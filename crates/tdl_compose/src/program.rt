@@ -1,4 +1,5 @@
-ghost use Rattle.std.specs.Prelude.{◌≡◌, [], IfOk};
+ghost use Rattle.std.specs.Prelude.{◌≡◌, ◌≤◌, [], length, IfOk};
+ghost use Rattle.tdl_base.specs.declared.limits.TheConstants.{SOURCES};
 ghost use Rattle.tdl_rules.specs.Faults.{faults};
 ghost use Rattle.tdl_program.specs.Programs as programs;
 
@@ -10,9 +11,10 @@ use tdl_mode::Program;
 use tdl_names::Sources;
 use tdl_resolve::numbers_of;
 
-/// The program that sources say which break no rule.
+/// The program that sources say which break no rule, at most 64.
 pub fn program_of(alloc: Global, sources: &Sources) -> Result<Program, NoMemory>
-    requires { faults sources.now ≡ [] }
+    requires kept { faults sources.now ≡ [] }
+    requires few { length sources.now ≤ SOURCES }
     ensures { IfOk result (λ program. program ≡ programs.program_of sources.now) }
 {
     let numbers = numbers_of(alloc, sources)?;

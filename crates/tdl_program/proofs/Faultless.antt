@@ -13,8 +13,10 @@ use Rattle.tdl_program.proofs.Emptiness.{empty-parts}
 
 -- each rule that a program's meaning rests on is kept
 pub record Faultless (sources : List Tree) : Type 0 where
+  pub spaces : c1 sources ≡ []
   pub imports : c2 sources ≡ []
   pub names : c3_c4 sources ≡ []
+  pub assignments : c6 sources ≡ []
   pub arguments : c7 sources ≡ []
   pub periods : c9 sources ≡ []
   pub frequencies : c10 sources ≡ []
@@ -25,7 +27,11 @@ pub record Faultless (sources : List Tree) : Type 0 where
   pub switches : c15 sources ≡ []
   pub targets : c16 sources ≡ []
   pub worsts : c17 sources ≡ []
+  pub turns : c18 sources ≡ []
+  pub depths : c19 sources ≡ []
+  pub steps : c20 sources ≡ []
   pub counts : each c21_module (modules sources) ≡ []
+  pub ports : in_declarations c21_ports sources ≡ []
   pub occurrences : passes OCCURRENCES (each (λ scope. each (counted scope) scope.tree.decls) (modules sources)) ≡ []
 
 -- so they are
@@ -51,9 +57,12 @@ faultless sources none =
     let a19 = empty-parts (c19 sources) _ a18.1 in
     let a20 = empty-parts (c20 sources) (c21 sources) a19.1 in
     let parts = empty-parts (each c21_module (modules sources) ++ in_declarations c21_ports sources) _ a20.1 in
+    let kept = empty-parts (each c21_module (modules sources)) (in_declarations c21_ports sources) parts.0 in
     record {
+      spaces = a1.0;
       imports = a2.0;
       names = a3.0;
+      assignments = a6.0;
       arguments = a7.0;
       periods = a9.0;
       frequencies = a10.0;
@@ -64,6 +73,10 @@ faultless sources none =
       switches = a15.0;
       targets = a16.0;
       worsts = a17.0;
-      counts = (empty-parts (each c21_module (modules sources)) (in_declarations c21_ports sources) parts.0).0;
+      turns = a18.0;
+      depths = a19.0;
+      steps = a20.0;
+      counts = kept.0;
+      ports = kept.1;
       occurrences = parts.1;
     }

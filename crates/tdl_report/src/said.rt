@@ -1,6 +1,6 @@
 ghost use Rattle.std.specs.Prelude.{◌≡◌, ◌≢◌, ◌⊎◌, ℕ, IfOk};
-ghost use Rattle.tdl_words.specs.Words.{texts, word_at};
-ghost use Rattle.tdl_report.specs.Statuses.{error_line, named_line};
+ghost use Rattle.tdl_words.specs.Words.{texts};
+ghost use Rattle.tdl_report.specs.Statuses.{error_line};
 ghost use Rattle.tdl_report.specs.Calls.{sink_call};
 ghost use Rattle.tdl_report.specs.Reports.{IsSaid};
 
@@ -42,22 +42,35 @@ fn say_made<E: Sink>(
     }
 }
 
-// Puts the line of a status that names a file.
-fn say_named<E: Sink>(
-    alloc: Global,
-    text: &[u8],
-    words: &[String],
-    at: usize,
-    status: Status,
-    err: &mut E,
-) -> Status
-    requires { error_line (texts words.now) status ≡ named_line text.now
-        (word_at (texts words.now) at) }
-    ensures kept { (result ≡ status) ⊎ (result ≡ Status.NoMemory) }
-    ensures said { IsSaid (sink_call E.told err.old err.new) (error_line (texts words.now) result) }
+// The line of a status that names a file or a rule; the other lines are put without memory.
+fn line_of(alloc: Global, words: &[String], status: Status) -> Result<Vec<u8>, NoMemory>
+    ensures { IfOk result (λ line. line.items ≡ error_line (texts words.now) status) }
 {
-    let made = named_line(alloc, text, word(words, at));
-    say_made(made, words, status, err)
+    match status {
+        Status::LoadFailed { word: at } => {
+            named_line(alloc, b"tdl: cannot load ", word(words, at))
+        }
+        Status::TooLong { word: at } => named_line(alloc, b"tdl: too long ", word(words, at)),
+        Status::BadToken {
+            word: at,
+            line,
+            col,
+        } => place_line(alloc, b"tdl: token at ", word(words, at), line, col),
+        Status::BadSyntax {
+            word: at,
+            line,
+            col,
+        } => place_line(alloc, b"tdl: syntax at ", word(words, at), line, col),
+        Status::BadProgram {
+            word: at,
+            rule,
+            line,
+            col,
+        } => program_line(alloc, rule, word(words, at), line, col),
+        Status::BadBundle { rule, at } => bundle_line(alloc, rule, at),
+        Status::BadForm { word: at } => named_line(alloc, b"tdl: form ", word(words, at)),
+        _ => Err(NoMemory),
+    }
 }
 
 /// Puts the line of a status. Where there is no memory for it, the status is NoMemory. The line of
@@ -76,42 +89,6 @@ pub fn report<E: Sink>(alloc: Global, words: &[String], status: Status, err: &mu
             say(b"tdl: usage\n", err);
             Status::Usage
         }
-        Status::LoadFailed { word: at } => {
-            say_named(alloc, b"tdl: cannot load ", words, at, status, err)
-        }
-        Status::TooLong { word: at } => {
-            say_named(alloc, b"tdl: too long ", words, at, status, err)
-        }
-        Status::BadToken {
-            word: at,
-            line,
-            col,
-        } => {
-            let made = place_line(alloc, b"tdl: token at ", word(words, at), line, col);
-            say_made(made, words, status, err)
-        }
-        Status::BadSyntax {
-            word: at,
-            line,
-            col,
-        } => {
-            let made = place_line(alloc, b"tdl: syntax at ", word(words, at), line, col);
-            say_made(made, words, status, err)
-        }
-        Status::BadProgram {
-            word: at,
-            rule,
-            line,
-            col,
-        } => {
-            let made = program_line(alloc, rule, word(words, at), line, col);
-            say_made(made, words, status, err)
-        }
-        Status::BadBundle { rule, at } => {
-            let made = bundle_line(alloc, rule, at);
-            say_made(made, words, status, err)
-        }
-        Status::BadForm { word: at } => say_named(alloc, b"tdl: form ", words, at, status, err),
         Status::WriteFailed => {
             say(b"tdl: cannot write\n", err);
             Status::WriteFailed
@@ -120,5 +97,6 @@ pub fn report<E: Sink>(alloc: Global, words: &[String], status: Status, err: &mu
             say(b"tdl: no memory\n", err);
             Status::NoMemory
         }
+        _ => say_made(line_of(alloc, words, status), words, status, err),
     }
 }

@@ -1,9 +1,45 @@
 use crate::{Status, report};
+use std::alloc::Global;
 use std::test::Fail;
+use tdl_base::NoMemory;
 use tdl_io::MemSink;
+
+// What the call's words are.
+fn words(alloc: Global) -> Result<Vec<String>, NoMemory> {
+    let mut words = Vec::new(alloc);
+    words.push(String::from_str(alloc, "P.tdl")?)?;
+    Ok(words)
+}
 
 #[test]
 fn each_status_has_its_code_and_line(rt: HostRuntime) -> Result<(), Fail> {
+    let rows = [
+        (Status::Usage, 1, "tdl: usage\n"),
+        (
+            Status::LoadFailed { word: 0 },
+            2,
+            "tdl: cannot load P.tdl\n",
+        ),
+        (Status::TooLong { word: 0 }, 3, "tdl: too long P.tdl\n"),
+        (Status::WriteFailed, 13, "tdl: cannot write\n"),
+        (Status::NoMemory, 16, "tdl: no memory\n"),
+        (Status::BadForm { word: 0 }, 17, "tdl: form P.tdl\n"),
+    ];
+    let words = words(rt.alloc())?;
+    for (status, code, line) in rows {
+        let mut err = MemSink::new(rt.alloc(), 64, Vec::new(rt.alloc()))?;
+        let answer = report(rt.alloc(), &words, status, &mut err);
+        assert_eq!(rt; answer, status, "{line}");
+        assert_eq!(rt; err.bytes(), line.as_bytes(), "{line}");
+        assert_eq!(rt; status.code(), code, "{line}");
+    }
+    assert_eq!(rt; Status::Ok.code(), 0);
+    assert_eq!(rt; Status::SaveFailed { word: 3 }.code(), 14);
+    Ok(())
+}
+
+#[test]
+fn faults_are_told_with_their_place(rt: HostRuntime) -> Result<(), Fail> {
     let token = Status::BadToken {
         word: 0,
         line: 12,
@@ -20,36 +56,22 @@ fn each_status_has_its_code_and_line(rt: HostRuntime) -> Result<(), Fail> {
         line: 1,
         col: 8,
     };
-    let bundle = Status::BadBundle { rule: 2, at: 216 };
     let rows = [
-        (Status::Usage, 1, "tdl: usage\n"),
-        (
-            Status::LoadFailed { word: 0 },
-            2,
-            "tdl: cannot load P.tdl\n",
-        ),
-        (Status::TooLong { word: 0 }, 3, "tdl: too long P.tdl\n"),
         (token, 4, "tdl: token at P.tdl:12:340\n"),
         (syntax, 5, "tdl: syntax at P.tdl:1:8\n"),
         (program, 6, "tdl: program C12 at P.tdl:1:8\n"),
-        (bundle, 11, "tdl: bundle B2 at 216\n"),
-        (Status::WriteFailed, 13, "tdl: cannot write\n"),
-        (Status::NoMemory, 16, "tdl: no memory\n"),
-        (Status::BadForm { word: 0 }, 17, "tdl: form P.tdl\n"),
+        (
+            Status::BadBundle { rule: 2, at: 216 },
+            11,
+            "tdl: bundle B2 at 216\n",
+        ),
     ];
-    let mut words = Vec::new(rt.alloc());
-    words.push(String::from_str(rt.alloc(), "P.tdl")?)?;
+    let words = words(rt.alloc())?;
     for (status, code, line) in rows {
         let mut err = MemSink::new(rt.alloc(), 64, Vec::new(rt.alloc()))?;
-        assert_eq!(rt;
-            report(rt.alloc(), &words, status, &mut err),
-            status,
-            "{line}"
-        );
+        let answer = report(rt.alloc(), &words, status, &mut err);
+        assert_eq!(rt; (answer, status.code()), (status, code), "{line}");
         assert_eq!(rt; err.bytes(), line.as_bytes(), "{line}");
-        assert_eq!(rt; status.code(), code, "{line}");
     }
-    assert_eq!(rt; Status::Ok.code(), 0);
-    assert_eq!(rt; Status::SaveFailed { word: 3 }.code(), 14);
     Ok(())
 }

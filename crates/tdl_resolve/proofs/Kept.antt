@@ -11,17 +11,14 @@ use Rattle.tdl_tree.specs.declared.declarations.Tree.{Tree}
 use Rattle.tdl_tree.specs.declared.names.Id.{Id}
 use Rattle.tdl_rules.specs.Lists.{each}
 use Rattle.tdl_rules.specs.Naming.{Scope, ports_in}
-use Rattle.tdl_rules.specs.Parts.{modules, in_declarations}
-use Rattle.tdl_rules.specs.NameRules.{c1, c2, c3_c4, c6, c7}
-use Rattle.tdl_rules.specs.SortRules.{c5, c8}
-use Rattle.tdl_rules.specs.ModeRules.{c9, c10, c11, c12, c13, c14, c15, c16, c17}
-use Rattle.tdl_rules.specs.BoundRules.{c18, c19, c20, c21_module, c21_ports, c21, passing, past}
+use Rattle.tdl_rules.specs.Parts.{modules}
+use Rattle.tdl_rules.specs.BoundRules.{c21_ports, passing, past}
 use Rattle.tdl_rules.specs.Faults.{faults}
 use Rattle.tdl_names.proofs.ModuleScopes.{scope_of_module}
 use Rattle.tdl_program.specs.Ordinals.{is_sensor, is_actuator, is_task, is_mode, declarations_of, port_ordinal, ports_at}
 use Rattle.tdl_program.specs.Programs.{module_of, sensors_in, actuators_in, tasks_in, modes_in}
 use Rattle.tdl_program.proofs.Counting.{IsSingle}
-use Rattle.tdl_program.proofs.Emptiness.{empty-parts}
+use Rattle.tdl_program.proofs.Faultless.{faultless}
 use Rattle.tdl_program.proofs.Limits.{keeps_limits}
 use Rattle.tdl_program.proofs.Scopes.{scope_at, module-at, at_declaration}
 use Rattle.tdl_program.proofs.Singles.{single_sensor, single_actuator, single_task, single_mode}
@@ -105,31 +102,6 @@ few_declarations sources k tree none at =
 
 -- ---- ports
 
--- the rule on ports is kept
-no_port_past : (sources : List Tree) → faults sources ≡ [] → in_declarations c21_ports sources ≡ []
-no_port_past sources none =
-    let a1 = empty-parts (c1 sources) _ none in
-    let a2 = empty-parts (c2 sources) _ a1.1 in
-    let a3 = empty-parts (c3_c4 sources) _ a2.1 in
-    let a5 = empty-parts (c5 sources) _ a3.1 in
-    let a6 = empty-parts (c6 sources) _ a5.1 in
-    let a7 = empty-parts (c7 sources) _ a6.1 in
-    let a8 = empty-parts (c8 sources) _ a7.1 in
-    let a9 = empty-parts (c9 sources) _ a8.1 in
-    let a10 = empty-parts (c10 sources) _ a9.1 in
-    let a11 = empty-parts (c11 sources) _ a10.1 in
-    let a12 = empty-parts (c12 sources) _ a11.1 in
-    let a13 = empty-parts (c13 sources) _ a12.1 in
-    let a14 = empty-parts (c14 sources) _ a13.1 in
-    let a15 = empty-parts (c15 sources) _ a14.1 in
-    let a16 = empty-parts (c16 sources) _ a15.1 in
-    let a17 = empty-parts (c17 sources) _ a16.1 in
-    let a18 = empty-parts (c18 sources) _ a17.1 in
-    let a19 = empty-parts (c19 sources) _ a18.1 in
-    let a20 = empty-parts (c20 sources) (c21 sources) a19.1 in
-    let parts = empty-parts (each c21_module (modules sources) ++ in_declarations c21_ports sources) _ a20.1 in
-    (empty-parts (each c21_module (modules sources)) (in_declarations c21_ports sources) parts.0).1
-
 -- ports that pass no count are at most so many
 ports_kept : (scope : Scope) (ports : List PortDecl) →
     past scope (passing PORTS (map (λ (port : PortDecl). port.name) ports)) ≡ [] → length ports ≤ PORTS
@@ -150,7 +122,7 @@ pub few_ports_of : (sources : List Tree) (m k : ℕ) (tree : Tree) (d : Decl) �
     slice_get sources m ≡ Some tree → slice_get tree.decls k ≡ Some d → length (ports_in d) ≤ PORTS
 few_ports_of sources m k tree d none at declared =
     ports_kept (scope_at sources m tree) (ports_in d)
-    (at_declaration c21_ports sources m tree k d (no_port_past sources none) at declared)
+    (at_declaration c21_ports sources m tree k d (faultless sources none).ports at declared)
 
 -- ---- outputs of tasks
 

@@ -16,4 +16,6 @@ pub use numbers::{Numbers, numbers_of};
 pub use ports::cell_of;
 
 #[cfg(test)]
+mod samples;
+#[cfg(test)]
 mod tests;

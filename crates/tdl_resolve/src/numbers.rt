@@ -1,4 +1,5 @@
-ghost use Rattle.std.specs.Prelude.{◌≡◌, ◌<◌, [], length, IfOk};
+ghost use Rattle.std.specs.Prelude.{◌≡◌, ◌<◌, ◌≤◌, [], length, IfOk};
+ghost use Rattle.tdl_base.specs.declared.limits.TheConstants.{SOURCES};
 ghost use Rattle.tdl_tree.specs.declared.declarations.Sort.TheVariants.{Output};
 ghost use Rattle.tdl_rules.specs.Faults.{faults};
 ghost use Rattle.tdl_program.specs.Ordinals as ordinals;
@@ -204,18 +205,15 @@ impl<'b, 'a> Numbers<'b, 'a> {
     }
 }
 
-/// The numbers of the declarations of sources that break no rule. The memory is not enough for
-/// 65,536 sources, and there are at most 64.
+/// The numbers of the declarations of sources that break no rule, at most 64.
 pub fn numbers_of<'b, 'a>(
     alloc: Global,
     sources: &'b Sources<'a>,
 ) -> Result<Numbers<'b, 'a>, NoMemory>
-    requires { faults sources.now ≡ [] }
+    requires kept { faults sources.now ≡ [] }
+    requires few { length sources.now ≤ SOURCES }
     ensures { IfOk result (λ numbers. numbers ≡ sources.now) }
 {
-    let Ok(_count) = u16::try_from(sources.len()) else {
-        return Err(NoMemory);
-    };
     let mut rows = Listed::new(alloc);
     for file in 0..sources.len() {
         let Some(scope) = sources.scope(file) else {

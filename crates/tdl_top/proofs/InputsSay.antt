@@ -69,10 +69,6 @@ no_form trees tree one is none p say =
     ap (λ (ts : List Tree). get_or ts 0 tree) (sym say.only ∙ single trees tree one is) in
     none say.says.form (subst (λ (t : Tree). IsPlainTree say.says.form t) same say.says.plain)
 
--- other than one tree say no program
-pub not_one : (trees : List Tree) → length trees ≢ 1 → (p : Program) → SayProgram trees p → ⊥
-not_one trees other p say = other (ap length say.only)
-
 -- ---- sources
 
 -- what one of the sources is refused for, the inputs are refused for
@@ -91,13 +87,7 @@ sources_input files words call n (BadSyntax w line col) is says =
 sources_input files words call n NoMemory is says = tt
 sources_input files words call n s is says = absurd says
 
--- what a refusal for the rules says, a refusal of the trees says
-pub rules_form : (trees : List Tree) (s : Status) → RulesSay trees s → FormSays trees s
-rules_form trees (BadProgram w rule line col) says = says
-rules_form trees NoMemory says = tt
-rules_form trees s says = absurd says
-
--- so it is for what their trees are refused for
+-- and so it is for what their trees are refused for
 pub form_input : (files : FilesCall) (words : Words) (call : Call) (n : ℕ) (trees : List Tree) (s : Status) →
     source_count call ≡ Some n → AreRead files.before.holds words n trees → FormSays trees s →
     InputSays files words call s
@@ -117,27 +107,6 @@ bundle_input : (holds : Option Held) (words : Words) (call : Call) (s : Status) 
     BundleRefused holds words s → IsRefused holds words call s
 bundle_input holds words call s is says =
     inl (subst (λ (o : Option ℕ). FirstRefused holds words o s) (sym is) says)
-
--- what a load refuses, the inputs are refused for
-pub load_input : (files : FilesCall) (words : Words) (call : Call) (s : Status) → source_count call ≡ None →
-    LoadSays files words 1 BUNDLE_BYTES s → InputSays files words call s
-load_input files words call (LoadFailed w) is says = (
-  inl (subst (λ (o : Option ℕ). IsAskedFirst files.before.holds words o w) (sym is) says.0),
-  subst (λ (v : ℕ). IsFailedLoad files words v) (sym says.0) says.1,
-)
-load_input files words call (TooLong w) is says = bundle_input files.before.holds words call (TooLong w) is says
-load_input files words call NoMemory is says = tt
-load_input files words call s is says = absurd says
-
--- what is refused of the bytes of a bundle, the inputs are refused for
-pub decode_input : (files : FilesCall) (words : Words) (call : Call) (bytes : List ℕ) (s : Status) →
-    source_count call ≡ None → IsRead files.before.holds (word_at words 1) BUNDLE_BYTES bytes → DecodeSays bytes s →
-    InputSays files words call s
-decode_input files words call bytes (BadBundle rule at) is read says =
-    bundle_input files.before.holds words call (BadBundle rule at) is
-    (record { bytes = bytes; read = read; holds_of = says })
-decode_input files words call bytes NoMemory is read says = tt
-decode_input files words call bytes s is read says = absurd says
 
 -- a lawful bundle that is not plain
 pub no_plain_bundle : (holds : Option Held) (words : Words) (call : Call) (bytes : List ℕ) (bundle : Bundle) →

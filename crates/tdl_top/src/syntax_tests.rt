@@ -6,7 +6,8 @@ use crate::plain_tests::changed;
 use std::alloc::{AllocError, Global};
 use std::test::Fail;
 
-/// Changes of the source of P after which a token is out of place: its line, its column, and the line that says so.
+/// Changes of the source of P after which a token is out of place: its line, its column, and the
+/// line that says so.
 const SYNTAX: [(&str, &[(&str, &str)], u32, u32, &str); 7] = [
     (
         "a sign after the end",

@@ -11,7 +11,7 @@ use Rattle.tdl_compose.proofs.ModuleList.{past_sources, past_modules}
 use Rattle.tdl_compose.proofs.program.program_of.Goals as goal
 
 pub of-requires : goal.of-requires
-of-requires c = ap faults c.in_ok-numbers.ensures ∙ c.requires
+of-requires c = ap faults c.in_ok-numbers.ensures ∙ c.requires.kept
 
 pub loop-file-preserved : goal.loop-file-preserved
 loop-file-preserved c =

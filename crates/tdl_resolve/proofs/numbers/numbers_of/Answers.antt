@@ -8,7 +8,7 @@ use Rattle.tdl_resolve.proofs.numbers.numbers_of.Goals as goal
 pub row_of-requires : goal.row_of-requires
 row_of-requires c =
     subst AreFew (sym (c.as_slice.ensures ∙ ap (λ (t : Tree). t.decls) (c.tree.ensures ∙ c.module.ensures)))
-    (few_declarations c.args.sources.now c.loop-file.file c.in-Some.scope.tree c.requires
+    (few_declarations c.args.sources.now c.loop-file.file c.in-Some.scope.tree c.requires.kept
     (source_at c.args.sources.now c.loop-file.file c.in-Some.scope (sym c.in-Some.ensures)))
 
 pub loop-file-preserved : goal.loop-file-preserved
@@ -21,4 +21,4 @@ loop-file-preserved c =
 pub unreachable-requires : goal.unreachable-requires
 unreachable-requires c =
     let within : c.loop-file.file < length c.args.sources.now = omega (arith, c.loop-file-test.true, c.len-file-end.ensures) in
-    module_there c.args.sources.now c.loop-file.file within (sym c.in_default-scope.ensures)
+    module_there c.args.sources.now c.loop-file.file within (sym c.in_default.ensures)

@@ -1,5 +1,5 @@
 use Rattle.std.proofs.Common.{◌≤◌, ap, ◌∙◌, sym, subst, slice_get, length, List}
-use Rattle.tdl_base.specs.declared.limits.TheConstants.{PORTS}
+use Rattle.tdl_base.specs.declared.limits.TheConstants.{PORTS, SOURCES}
 use Rattle.tdl_tree.specs.declared.declarations.PortDecl.{PortDecl}
 use Rattle.tdl_tree.specs.declared.declarations.Tree.{Tree}
 use Rattle.tdl_rules.specs.Faults.{faults}
@@ -8,10 +8,14 @@ use Rattle.tdl_resolve.proofs.Kept.{source_at, few_ports_of, stands}
 use Rattle.tdl_resolve.proofs.tests.does.Goals as goal
 
 pub numbers_of-requires : goal.numbers_of-requires
-numbers_of-requires c = ap faults (c.in_ok-sources.ensures ∙ c.as_slice.ensures) ∙ c.in_ok-trees.ensures.kept
+numbers_of-requires c = record {
+  kept = ap faults (c.in_ok-sources.ensures ∙ c.as_slice.ensures) ∙ c.in_ok-trees.ensures.kept;
+  few = subst (λ (trees : List Tree). length trees ≤ SOURCES) (sym (c.in_ok-sources.ensures ∙ c.as_slice.ensures))
+      c.in_ok-trees.ensures.few;
+}
 
-pub body_of-requires : goal.body_of-requires
-body_of-requires c = record {
+pub body_in-requires : goal.body_in-requires
+body_in-requires c = record {
   stands = subst (λ sources. Stands sources c.in-Some.scope) (sym c.in_ok-numbers.ensures)
       (stands c.in_ok-sources.sources 1 c.in-Some.scope (sym c.in-Some.ensures));
   few =

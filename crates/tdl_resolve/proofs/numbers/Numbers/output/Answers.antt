@@ -1,5 +1,5 @@
 -- By what stands at the two numbers.
-use Rattle.std.proofs.Common.{◌≡◌, ◌≤◌, ℕ, List, Some, None, sym, ap, ◌∙◌, subst, slice_get, length}
+use Rattle.std.proofs.Common.{◌≡◌, ◌≤◌, List, Some, sym, ap, ◌∙◌, subst, slice_get, length}
 use Rattle.tdl_base.specs.declared.limits.TheConstants.{PORTS}
 use Rattle.tdl_tree.specs.declared.declarations.PortDecl.{PortDecl}
 use Rattle.tdl_tree.specs.declared.declarations.Sort.TheVariants as sort

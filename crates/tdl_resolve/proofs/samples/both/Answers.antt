@@ -5,7 +5,7 @@ use Rattle.tdl_tree.specs.declared.declarations.Tree.{Tree}
 use Rattle.tdl_rules.specs.Faults.{faults}
 use Rattle.tdl_resolve.specs.Examples.{far, near}
 use Rattle.tdl_resolve.proofs.ExampleSources.{none_broken}
-use Rattle.tdl_resolve.proofs.tests.both.Goals as goal
+use Rattle.tdl_resolve.proofs.samples.both.Goals as goal
 
 -- two trees, that are those
 both_are : (trees new : List Tree) (first second : Tree) → first ≡ far → trees ≡ first ∷ [] → second ≡ near →

@@ -1,0 +1,12 @@
+pub mod Summing
+pub mod KindsOfNumbers
+pub mod Counts
+pub mod Depths
+pub mod OwnCells
+pub mod StatementLists
+pub mod BodyParts
+pub mod Bodies
+pub mod Differing
+pub mod Drawn
+pub mod PartNames
+pub mod Names
