@@ -99,3 +99,60 @@ fn literals_are_narrowed(rt: HostRuntime) -> Result<(), Fail> {
     assert_eq!(rt; found.as_slice(), wanted.as_slice());
     Ok(())
 }
+
+const FAR: &str = "module far { public const byte gain = 300; start mode idle [period=10us] { } }";
+
+const NEAR: &str = "module near { import far; sensor int level; actuator byte valve := -7;
+  task mix [wcet=3us] { local int l; input int a; output short o := 70000; o := a; }
+  mode rest [period=10us] { }
+  start mode work [period=12us] {
+    task [freq=4, slots=1-2, 4] mix(level + far.gain);
+    update [freq=3] valve := mix.o;
+    switch [freq=2, slots=2] to rest if level < 5; } }";
+
+/// The starts and ends of a module's invocations, the offsets of its updates and of its switches.
+fn instants(alloc: Global, module: &Module) -> Result<Listed<u64>, NoMemory> {
+    let mut list = Listed::new(alloc);
+    for mode in module.modes.as_slice() {
+        for invocation in mode.invocations.as_slice() {
+            list.push(invocation.s.0)?;
+            list.push(invocation.e.0)?;
+        }
+        for update in mode.updates.as_slice() {
+            list.push(update.at.0)?;
+        }
+        for switch in mode.switches.as_slice() {
+            list.push(switch.at.0)?;
+        }
+    }
+    Ok(list)
+}
+
+// Tables could always ask for memory in vain, and no program would ever be made.
+#[test]
+fn a_program_of_two_sources(rt: HostRuntime) -> Result<(), Fail> {
+    let alloc = rt.alloc();
+    let Some(far) = tree_of(alloc, FAR)? else {
+        panic!(rt; "no first tree");
+    };
+    let Some(near) = tree_of(alloc, NEAR)? else {
+        panic!(rt; "no second tree");
+    };
+    let Ok(checked) = check(alloc, &[far, near]) else {
+        panic!(rt; "a fault");
+    };
+    let Some(module) = checked.program().modules.get(1) else {
+        panic!(rt; "no second module");
+    };
+    let wanted = [0u64, 6, 9, 12, 4, 8, 12, 12];
+    assert_eq!(rt; instants(alloc, module)?.as_slice(), wanted.as_slice());
+    assert_eq!(rt; module.start.0, 1);
+    assert_eq!(rt; module.imports.len(), 1);
+    let counts = [
+        module.sensors.len(),
+        module.actuators.len(),
+        module.tasks.len(),
+    ];
+    assert_eq!(rt; counts, [1, 1, 1]);
+    Ok(())
+}

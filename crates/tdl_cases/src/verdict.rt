@@ -1,5 +1,8 @@
 //! What the check says of sources, and what it is to say: `^` stands before the place that is told.
 
+ghost use Rattle.std.specs.Prelude.{All, IfOk, IfSome};
+ghost use Rattle.tdl_size.specs.Sized.{IsSized};
+
 use std::alloc::Global;
 use std::process::Abort;
 use std::test::Fail;
@@ -33,7 +36,9 @@ pub struct Long<'a> {
 }
 
 /// The tree of a source, if it has one.
-pub fn tree_of(alloc: Global, source: &str) -> Result<Option<Tree>, NoMemory> {
+pub fn tree_of(alloc: Global, source: &str) -> Result<Option<Tree>, NoMemory>
+    ensures { IfOk result (λ found. IfSome found IsSized) }
+{
     let bytes = source.as_bytes();
     if bytes.len() > SOURCE_BYTES {
         return Ok(None);
@@ -50,7 +55,9 @@ pub fn tree_of(alloc: Global, source: &str) -> Result<Option<Tree>, NoMemory> {
     }
 }
 
-fn verdict_of(alloc: Global, trees: &[Tree]) -> Result<Verdict, NoMemory> {
+fn verdict_of(alloc: Global, trees: &[Tree]) -> Result<Verdict, NoMemory>
+    requires { All IsSized trees.now }
+{
     if trees.len() > SOURCES {
         return Ok(Verdict::NoTrees);
     }

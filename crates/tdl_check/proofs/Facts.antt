@@ -1,5 +1,5 @@
 -- What is known of the program that sources say which break no rule.
-use Rattle.std.proofs.Common.{◌≡◌, ℕ, suc, ◌≤◌, List, [], ◌∷◌, length, refl, ap, sym, ◌∙◌, subst}
+use Rattle.std.proofs.Common.{◌≡◌, ℕ, suc, ◌≤◌, List, [], ◌∷◌, length, All, refl, ap, sym, ◌∙◌, subst}
 use Rattle.std.proofs.lemmas.List.{length-map}
 use Rattle.tdl_base.specs.Lists.{numbered}
 use Rattle.tdl_base.specs.declared.limits.TheConstants.{SOURCES}
@@ -13,7 +13,9 @@ use Rattle.tdl_program.proofs.Scopes.{scope_at}
 use Rattle.tdl_program.proofs.WellModules.{well_formed}
 use Rattle.tdl_kept.proofs.Bodies.{keeps_bodies}
 use Rattle.tdl_kept.proofs.Counts.{keeps_counts}
+use Rattle.tdl_kept.proofs.Identifiers.{has_identifiers}
 use Rattle.tdl_kept.proofs.Names.{keeps_names}
+use Rattle.tdl_size.specs.Sized.{IsSized}
 use Rattle.tdl_check.specs.IsChecked.{IsChecked}
 
 -- a numbered list is as long as the list
@@ -27,13 +29,15 @@ as_many sources = length-map (modules sources) module_of ∙ length-numbered (sc
 
 -- it has all that is asked of it
 pub checked : (sources trees : List Tree) (program : Program) → sources ≡ trees → length trees ≤ SOURCES →
-    faults sources ≡ [] → program ≡ program_of sources → IsChecked program
-checked sources trees program same few none made =
+    All IsSized trees → faults sources ≡ [] → program ≡ program_of sources → IsChecked program
+checked sources trees program same few sized none made =
+    let all = subst (λ (s : List Tree). All IsSized s) (sym same) sized in
     subst IsChecked (sym made) (record {
       well_formed = well_formed sources none;
       limits = keeps_limits sources none;
-      bodies = keeps_bodies sources none;
+      bodies = keeps_bodies sources none all;
       counts = keeps_counts sources none;
       names = keeps_names sources none;
+      identifiers = has_identifiers sources all;
       few = subst (λ n. n ≤ SOURCES) (sym (as_many sources ∙ ap (λ (s : List Tree). length s) same)) few;
     })

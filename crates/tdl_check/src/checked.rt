@@ -5,7 +5,7 @@ use std::marker::Model;
 use tdl_mode::Program;
 
 /// A program that sources say which break no rule, at most 64: it is well-formed, keeps the limits
-/// of its parts, the bounds of its bodies and the counts, and its names differ.
+/// of its parts, the bounds of its bodies and the counts, and its names are identifiers and differ.
 #[derive(Debug, Drop)]
 pub struct Checked {
     pub(crate) program: Program,

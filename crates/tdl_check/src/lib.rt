@@ -11,8 +11,3 @@ mod rules;
 pub use checked::Checked;
 pub use checking::check;
 pub use error::CheckError;
-
-#[cfg(test)]
-mod samples;
-#[cfg(test)]
-mod tests;

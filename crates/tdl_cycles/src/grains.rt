@@ -29,7 +29,8 @@ fn gcd_with(number: u64, mode: &Mode) -> u64
     divisor
 }
 
-fn gcd(a: u64, b: u64) -> u64
+/// The greatest common divisor of two numbers; that of 0 and 0 is 0.
+pub fn gcd(a: u64, b: u64) -> u64
     ensures { IsGcd a b result }
 {
     let mut larger = a;

@@ -4,7 +4,7 @@
 mod grains;
 mod offset_list;
 
-pub use grains::grain;
+pub use grains::{gcd, grain};
 pub use offset_list::offsets;
 
 #[cfg(test)]

@@ -23,6 +23,14 @@ pub fn exec(b: &Body, env: &mut Env)
     run_body(b, &env.kinds, &mut env.cells);
 }
 
+/// The same to cells of these kinds alone.
+pub fn exec_cells(b: &Body, kinds: &Listed<Kind>, cells: &mut Listed<i64>)
+    ensures done { made_of kinds.now cells.new ≡ effect_of b.now (made_of kinds.now cells.old) }
+    ensures count { length cells.new ≡ length cells.old }
+{
+    run_body(b, kinds, cells);
+}
+
 #[cycle(body)]
 fn run_body(b: &Body, kinds: &Listed<Kind>, cells: &mut Listed<i64>)
     ensures done { made_of kinds.now cells.new ≡ effect_of b.now (made_of kinds.now cells.old) }

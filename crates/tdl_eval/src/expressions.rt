@@ -1,9 +1,9 @@
 ghost use Rattle.std.specs.Prelude.{◌≡◌};
 ghost use Rattle.tdl_body.specs.Values.{value_of};
-ghost use Rattle.tdl_eval.specs.Envs.{seen, look_of};
+ghost use Rattle.tdl_eval.specs.Envs.{look_of};
 
-use crate::Env;
-use crate::view::{View, view_of};
+use crate::view::view_of;
+use crate::{Env, Reader};
 use tdl_base::{bin, un};
 use tdl_body::Expr;
 
@@ -15,13 +15,14 @@ pub fn eval(e: &Expr, env: &Env) -> i64
     value(e, &view_of(env))
 }
 
-pub(crate) fn value(e: &Expr, view: &View) -> i64
-    ensures { result ≡ value_of e.now (seen view.now) }
+/// The number of an expression over what a reader shows. It takes no memory.
+pub fn value<R: Reader>(e: &Expr, reader: &R) -> i64
+    ensures { result ≡ value_of e.now (R.look reader.now) }
 {
     match e {
         Expr::Const(v) => *v,
-        Expr::Load(place) => view.read(place),
-        Expr::Un(op, a) => un(*op, value(a.get(), view)),
-        Expr::Bin(op, a, b) => bin(*op, value(a.get(), view), value(b.get(), view)),
+        Expr::Load(place) => reader.read(place),
+        Expr::Un(op, a) => un(*op, value(a.get(), reader)),
+        Expr::Bin(op, a, b) => bin(*op, value(a.get(), reader), value(b.get(), reader)),
     }
 }

@@ -5,11 +5,13 @@
 mod bodies;
 mod env;
 mod expressions;
+mod reader;
 mod view;
 
-pub use bodies::exec;
+pub use bodies::{exec, exec_cells};
 pub use env::Env;
-pub use expressions::eval;
+pub use expressions::{eval, value};
+pub use reader::Reader;
 
 #[cfg(test)]
 mod tests;

@@ -2,7 +2,7 @@ ghost use Rattle.std.specs.Prelude.{◌≡◌, pos, position, slice_index_or};
 ghost use Rattle.tdl_body.specs.Values.{read};
 ghost use Rattle.tdl_eval.specs.Envs.{is_same, number_beside, seen, look_of, cells_alone};
 
-use crate::Env;
+use crate::{Env, Reader};
 use tdl_base::{Place, PortKey};
 
 // What an expression reads: cells, sensors, and outputs with their numbers.
@@ -14,11 +14,10 @@ pub(crate) struct View<'a> {
     pub ports: &'a [i64],
 }
 
-impl View<'_> {
-    // The number at a place; 0 where it is not there.
-    pub(crate) fn read(&self, place: &Place) -> i64
-        ensures { result ≡ read place.now (seen self.now) }
-    {
+impl Reader for View<'_> {
+    ghost look = { seen };
+
+    fn read(&self, place: &Place) -> i64 {
         match place {
             Place::Sensor(k) => number_at(self.sensed, usize::from(*k)),
             Place::Port(key) => number_beside(key, self.keys, self.ports),

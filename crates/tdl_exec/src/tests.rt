@@ -63,7 +63,7 @@ fn cells_after(alloc: Global, instrs: &[Instr], a: i64, o: i64) -> Result<Listed
     values.push(a)?;
     values.push(o)?;
     let mut cells = Cells::new(kinds, values);
-    if check_code(code.instrs.as_slice(), &shape) {
+    if check_code(alloc, code.instrs.as_slice(), &shape)? {
         run_code(&code, &mut cells);
     }
     Ok(cells.into_values())
@@ -93,17 +93,17 @@ fn bodies(rt: HostRuntime) -> Result<(), Fail> {
 }
 
 // The number of a lawful expression.
-fn number(code: &Code, outer: &Outer) -> i64 {
+fn number(alloc: Global, code: &Code, outer: &Outer) -> Result<i64, NoMemory> {
     let shape = Shape {
         cells: 0,
         sensors: 1,
         keys: outer.keys,
         expression: true,
     };
-    if check_code(code.instrs.as_slice(), &shape) {
-        return run_expr(code, outer);
+    if check_code(alloc, code.instrs.as_slice(), &shape)? {
+        return Ok(run_expr(code, outer));
     }
-    -1
+    Ok(-1)
 }
 
 #[test]
@@ -137,7 +137,7 @@ fn expressions(rt: HostRuntime) -> Result<(), Fail> {
     ];
     for (instrs, want) in rows {
         let code = code_of(rt.alloc(), instrs)?;
-        assert_eq!(rt; number(&code, &outer), want, "{instrs:?}");
+        assert_eq!(rt; number(rt.alloc(), &code, &outer)?, want, "{instrs:?}");
     }
     Ok(())
 }

@@ -5,6 +5,7 @@ use Rattle.std.proofs.lemmas.List.Elements.{All-nil, All-cons, All-head, All-tai
 use Rattle.tdl_base.specs.Lists.{changed_at}
 use Rattle.tdl_trace.specs.Shown.{Shown}
 use Rattle.tdl_scen.specs.declared.entries.Sense.{Sense}
+use Rattle.tdl_scen.specs.declared.entries.TaskTimes.{TaskTimes}
 use Rattle.tdl_stack.specs.declared.instr.Code.{Code}
 use Rattle.tdl_ecode.specs.declared.instr.EInstr.{EInstr}
 use Rattle.tdl_ecode.specs.declared.instr.EInstr.TheVariants.{Call, Release, End, Take, Mode, If, Jump, Future, Return}
@@ -19,7 +20,7 @@ use Rattle.tdl_verify.specs.Turns.{Acted, call_acts, release_acts, end_acts, hos
 use Rattle.tdl_verify.specs.Micros.{tasks_run}
 use Rattle.tdl_host.specs.declared.act.Next.{Next}
 use Rattle.tdl_host.specs.declared.act.Next.TheVariants as nexts
-use Rattle.tdl_host.specs.Hosts.{HasReleased, acts, with_rows_before, went, value_at, worst_times, slot_of}
+use Rattle.tdl_host.specs.Hosts.{HasReleased, acts, with_rows_before, went, value_at, listed_times, slot_of}
 
 -- at most so many jobs of a task were released
 abbrev IsUpTo : ℕ → TaskNow → Type 0
@@ -136,12 +137,12 @@ went-counted b h s' rows rows' nexts.Over (Acted.On p new pc) n e = absurd cc
 went-counted b h s' rows rows' nexts.Over (Acted.Stop reason) n e = absurd cc
 
 -- an instruction releases one job at most
-pub acts-counted : (b : ℕ) (h : Hosted) (senses : List Sense) (x : ℕ) (rows rows' : List Shown) (s s' : HostNow)
-    (pc : ℕ) (i : EInstr) (nx : Next) → acts h senses x rows s pc i ≡ went nx h s' rows' → HasReleased b s →
-    HasReleased (suc b) s'
-acts-counted b h senses x rows rows' s s' pc i nx e n =
-    went-counted (suc b) h s' rows rows' nx (host_acts x 0 (value_at h s senses x) (worst_times h) h s pc i)
-    (host_acts-counted b x 0 (value_at h s senses x) (worst_times h) h s pc n i) e
+pub acts-counted : (b : ℕ) (h : Hosted) (times : List TaskTimes) (senses : List Sense) (x : ℕ) (rows rows' : List Shown)
+    (s s' : HostNow) (pc : ℕ) (i : EInstr) (nx : Next) → acts h times senses x rows s pc i ≡ went nx h s' rows' →
+    HasReleased b s → HasReleased (suc b) s'
+acts-counted b h times senses x rows rows' s s' pc i nx e n =
+    went-counted (suc b) h s' rows rows' nx (host_acts x 0 (value_at h s senses x) (listed_times h times) h s pc i)
+    (host_acts-counted b x 0 (value_at h s senses x) (listed_times h times) h s pc n i) e
 
 run-all : (b : ℕ) (windows : List ImageWindow) (ts : List TaskTable) (us : List TaskNow) → All (IsUpTo b) us →
     All (IsUpTo b) (tasks_run windows ts us)

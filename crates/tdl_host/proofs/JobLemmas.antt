@@ -109,7 +109,8 @@ shape-cells t inputs outputs locals ins outs locs =
     ap (λ ks. cells_of_shape (record { inputs = ks; outputs = outputs; locals = locals })) ins
     ∙ ap (λ ks. cells_of_shape (record { inputs = t.inputs; outputs = ks; locals = locals })) outs
     ∙ ap
-    (λ ks. cells_of_shape (record { inputs = t.inputs; outputs = map (λ (o : Initial). o.kind) t.outputs; locals = ks }))
+    (λ ks.
+    cells_of_shape (record { inputs = t.inputs; outputs = map (λ (o : Initial). o.kind) t.outputs; locals = ks }))
     locs
     ∙ ap
     (λ n. record {
@@ -146,17 +147,17 @@ commits v s place place' d i outputs e slot was now is =
     })
 
 -- a task whose job is released, over the outputs that stand
-pub starts : (v s : TaskView) (r : ReleaseEntry) (inputs outputs : List ℤ) (slot : Slot) (count exec : ℕ)
+pub starts : (v s : TaskView) (r : ReleaseEntry) (inputs outputs : List ℤ) (slot : Slot) (count time : ℕ)
     (cells : TaskCells) → v ≡ s → length inputs ≡ length s.table.inputs →
     length v.now.outputs ≡ length v.table.outputs → cells ≡ cells_of_table v.table → outputs ≡ v.now.outputs →
-    exec ≡ v.table.worst → slot ≡ Slot.Ready r.mode r.invocation exec (released cells inputs outputs) →
-    count ≡ suc v.now.released → record v.now { slot = slot; released = count } ≡ with_job s.table r inputs s.now
-starts v s r inputs outputs slot count exec cells e ins outs ec eo ew is en =
+    slot ≡ Slot.Ready r.mode r.invocation time (released cells inputs outputs) →
+    count ≡ suc v.now.released → record v.now { slot = slot; released = count } ≡ with_job s.table r time inputs s.now
+starts v s r inputs outputs slot count time cells e ins outs ec eo is en =
     let own : length inputs ≡ length v.table.inputs = ins ∙ ap (λ (z : TaskView). length z.table.inputs) (sym e) in
     let values : released cells inputs outputs
     ≡ narrowed_each v.table.inputs inputs ++ v.now.outputs ++ replicate (length v.table.locals) (pos 0) =
     ap₂ (λ (k : TaskCells) (o : List ℤ). released k inputs o) ec eo
     ∙ released-cells v.table inputs v.now.outputs own outs in
-    subst (λ (z : TaskView). record v.now { slot = slot; released = count } ≡ with_job z.table r inputs z.now) e
+    subst (λ (z : TaskView). record v.now { slot = slot; released = count } ≡ with_job z.table r time inputs z.now) e
     (ap₂ (λ (k : Slot) (n : ℕ). record v.now { slot = k; released = n })
-    (is ∙ ap₂ (λ (left : ℕ) (vs : List ℤ). Slot.Ready r.mode r.invocation left vs) ew values) en)
+    (is ∙ ap (λ (vs : List ℤ). Slot.Ready r.mode r.invocation time vs) values) en)

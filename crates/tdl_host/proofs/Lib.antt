@@ -8,3 +8,4 @@ pub mod MicroLemmas
 pub mod CountLemmas
 pub mod CheckedLemmas
 pub mod PlainCodes
+pub mod TimeLemmas

@@ -1,5 +1,5 @@
 -- An item at its place in a list, and a list of which one item has changed.
-use Rattle.std.proofs.Common.{◌≡◌, ℕ, zero, suc, ◌<◌, ◌≤◌, List, [], ◌∷◌, ◌++◌, length, map, take, set, get_or, slice_get, Some, None, refl, ap, sym, ◌∙◌, arith}
+use Rattle.std.proofs.Common.{◌≡◌, ℕ, zero, suc, ◌<◌, ◌≤◌, List, [], ◌∷◌, ◌++◌, length, map, take, drop, drop-cons, add-one, ◌+◌, set, get_or, slice_get, Some, None, refl, ap, sym, ◌∙◌, arith}
 use Rattle.std.proofs.lemmas.List.{map-set}
 use Rattle.std.proofs.Math.Seq.{take-append_seam}
 use Rattle.std.proofs.lemmas.Option.{slice_get-get_or}
@@ -8,6 +8,12 @@ use Rattle.tdl_base.specs.Lists.{changed_at}
 -- a place within a list has its item
 pub there : {A : Type 0} (xs : List A) (k : ℕ) (x : A) → k < length xs → x ≡ get_or xs k x → slice_get xs k ≡ Some x
 there xs k x lt is = slice_get-get_or xs k x lt ∙ ap (λ z. Some z) (sym is)
+
+-- the items from a place on begin with its item
+pub front-dropped : {A : Type 0} (xs : List A) (k : ℕ) (x : A) → k < length xs → x ≡ get_or xs k x →
+    drop k xs ≡ x ∷ drop (k + 1) xs
+front-dropped xs k x lt is =
+    drop-cons xs k x lt ∙ ap (λ z. z ∷ drop (suc k) xs) (sym is) ∙ ap (λ n. x ∷ drop n xs) (sym (add-one k))
 
 -- a place past the end has none
 pub none-past : {A : Type 0} (xs : List A) (k : ℕ) → length xs ≤ k → slice_get xs k ≡ None

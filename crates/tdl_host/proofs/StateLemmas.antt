@@ -1,5 +1,5 @@
 -- A state of which one task has changed.
-use Rattle.std.proofs.Common.{◌≡◌, ℕ, ◌≤◌, ℤ, List, [], ◌∷◌, length, map, set, slice_get, Some, None, Result, Ok, Err, OnOk, false, refl, ap, sym, subst, ◌∙◌, arith}
+use Rattle.std.proofs.Common.{◌≡◌, ℕ, suc, ◌≤◌, ℤ, List, [], ◌∷◌, length, map, set, slice_get, Some, None, Result, Ok, Err, OnOk, false, refl, ap, sym, subst, ◌∙◌, arith}
 use Rattle.std.proofs.lemmas.List.{length-map}
 use Rattle.tdl_base.specs.Lists.{changed_at}
 use Rattle.tdl_trace.specs.declared.why.Why.{Why}
@@ -62,20 +62,22 @@ committed-at v s us t u u' e tasks at at' done =
     })
 
 -- the state whose task has a job released
-pub started-at : (v s : HostNow) (us : List TaskView) (t : ℕ) (r : ReleaseEntry) (inputs : List ℤ) (table : TaskTable)
-    (u u' : TaskView) → v ≡ s → v.tasks ≡ states_of us → slice_get us t ≡ Some u → table ≡ u.table →
-    u.now.slot ≡ Slot.Idle → u'.now ≡ with_job u.table r inputs u.now →
-    IsStartedAt t r inputs table s (record v { tasks = states_of (set us t u') })
-started-at v s us t r inputs table u u' e tasks at own idle now =
-    subst (λ (z : HostNow). IsStartedAt t r inputs table z (record v { tasks = states_of (set us t u') })) e
-    (subst (λ (k : TaskTable). IsStartedAt t r inputs k v (record v { tasks = states_of (set us t u') })) (sym own)
-    (record {
+pub started-at : (v s : HostNow) (us : List TaskView) (t : ℕ) (r : ReleaseEntry) (time : TaskTable → ℕ → ℕ)
+    (inputs : List ℤ) (table : TaskTable) (u u' : TaskView) → v ≡ s → v.tasks ≡ states_of us →
+    slice_get us t ≡ Some u → table ≡ u.table → u.now.slot ≡ Slot.Idle →
+    u'.now ≡ with_job u.table r (time u.table (suc u.now.released)) inputs u.now →
+    IsStartedAt t r (time table) inputs table s (record v { tasks = states_of (set us t u') })
+started-at v s us t r time inputs table u u' e tasks at own idle now =
+    let after : HostNow = record v { tasks = states_of (set us t u') } in
+    let job : TaskNow → TaskNow = with_job u.table r (time u.table (suc u.now.released)) inputs in
+    subst (λ (z : HostNow). IsStartedAt t r (time table) inputs table z after) e
+    (subst (λ (k : TaskTable). IsStartedAt t r (time k) inputs k v after) (sym own) (record {
       was = u.now;
       here = rw (tasks, state-there us t u at) refl;
       idle = idle;
       now = ap (λ (ts : List TaskNow). record v { tasks = ts })
-          (mapped-changed (λ (x : TaskView). x.now) (with_job u.table r inputs) us t u u' at now
-          ∙ ap (λ (ts : List TaskNow). changed_at t (with_job u.table r inputs) ts) (sym tasks));
+          (mapped-changed (λ (x : TaskView). x.now) job us t u u' at now
+          ∙ ap (λ (ts : List TaskNow). changed_at t job ts) (sym tasks));
     }))
 
 -- a task that is there, with its job

@@ -4,7 +4,8 @@ use Rattle.tdl_base.specs.declared.numbers.TheConstants.{FIRST_NODE}
 use Rattle.tdl_base.specs.Lists.{changed_at}
 use Rattle.tdl_trace.specs.Shown.{Shown}
 use Rattle.tdl_scen.specs.declared.entries.Sense.{Sense}
-use Rattle.tdl_scen.specs.Scenario.{course_of}
+use Rattle.tdl_scen.specs.declared.entries.TaskTimes.{TaskTimes}
+use Rattle.tdl_scen.specs.Scenario.{course_of, time_of}
 use Rattle.tdl_stack.specs.declared.instr.Code.{Code}
 use Rattle.tdl_stack.specs.Running.{Outer}
 use Rattle.tdl_ecode.specs.declared.instr.EInstr.{EInstr}
@@ -126,21 +127,21 @@ pub record IsCommittedAt (t : ℕ) (old new : HostNow) : Type 0 where
       { tasks = changed_at t (λ (u : TaskNow). record u { outputs = outputs; slot = Slot.Idle }) old.tasks }
   pub shown : task_outputs new t ≡ outputs
 
--- a task of this table with one more job, which is released with these inputs
-abbrev pub with_job : TaskTable → ReleaseEntry → List ℤ → TaskNow → TaskNow
-with_job t r inputs u = record u {
-  slot = Slot.Ready r.mode r.invocation t.worst
+-- a task of this table with one more job, which takes this time and is released with these inputs
+abbrev pub with_job : TaskTable → ReleaseEntry → ℕ → List ℤ → TaskNow → TaskNow
+with_job t r time inputs u = record u {
+  slot = Slot.Ready r.mode r.invocation time
       (narrowed_each t.inputs inputs ++ u.outputs ++ replicate (length t.locals) (pos 0));
   released = suc u.released;
 }
 
--- a job of task t, which had none, is released with these inputs
-pub record IsStartedAt (t : ℕ) (r : ReleaseEntry) (inputs : List ℤ) (table : TaskTable) (old new : HostNow) : Type 0
-  where
-    pub was : TaskNow
-    pub here : slice_get old.tasks t ≡ Some was
-    pub idle : was.slot ≡ Slot.Idle
-    pub now : new ≡ record old { tasks = changed_at t (with_job table r inputs) old.tasks }
+-- a job of task t, which had none, is released with these inputs; its k-th job takes `time k`
+pub record IsStartedAt (t : ℕ) (r : ReleaseEntry) (time : ℕ → ℕ) (inputs : List ℤ) (table : TaskTable)
+    (old new : HostNow) : Type 0 where
+  pub was : TaskNow
+  pub here : slice_get old.tasks t ≡ Some was
+  pub idle : was.slot ≡ Slot.Idle
+  pub now : new ≡ record old { tasks = changed_at t (with_job table r (time (suc was.released)) inputs) old.tasks }
 
 -- task t is there, and has a job
 pub record IsBusyAt (t : ℕ) (s : HostedNow) : Type 0 where
@@ -160,11 +161,15 @@ outer_at h s senses x = outer_on (Part.Host h s ∷ []) (course_of senses x) h.n
 abbrev pub value_at : Hosted → HostNow → List Sense → ℕ → Code → ℤ
 value_at h s senses x code = value_on (Part.Host h s ∷ []) (course_of senses x) h.number.0 code
 
--- each job takes its task's worst case
-abbrev pub worst_times : Hosted → Times
-worst_times h m t k =
+-- the worst case of task t of module m; 0 where there is no such task
+abbrev pub worst_of : Hosted → ℕ → ℕ → ℕ
+worst_of h m t =
     unwrap_or (option_map (λ (table : TaskTable). table.worst)
     (option_and_then (λ (own : Hosted). slice_get own.tasks t) (find (λ (own : Hosted). own.number.0 == m) (h ∷ [])))) 0
+
+-- how long the jobs of the module take: as is listed, otherwise their worst cases
+abbrev pub listed_times : Hosted → List TaskTimes → Times
+listed_times h times m t k = time_of times (worst_of h m t) m t k
 
 -- ---- instructions
 
@@ -175,9 +180,9 @@ with_rows_before rows (Acted.Over p more) = Acted.Over p (rows ++ more)
 with_rows_before rows (Acted.Stop reason) = Acted.Stop reason
 
 -- what an instruction of the module does at instant x on the first node, after rows
-abbrev pub acts : Hosted → List Sense → ℕ → List Shown → HostNow → ℕ → EInstr → Acted
-acts h senses x rows s pc i =
-    with_rows_before rows (host_acts x FIRST_NODE.0 (value_at h s senses x) (worst_times h) h s pc i)
+abbrev pub acts : Hosted → List TaskTimes → List Sense → ℕ → List Shown → HostNow → ℕ → EInstr → Acted
+acts h times senses x rows s pc i =
+    with_rows_before rows (host_acts x FIRST_NODE.0 (value_at h s senses x) (listed_times h times) h s pc i)
 
 -- the block of a module goes on
 abbrev pub went : Next → Hosted → HostNow → List Shown → Acted
@@ -187,9 +192,9 @@ went Next.Over h s rows = Acted.Over (Part.Host h s) rows
 -- ---- turns
 
 -- what a turn of the module comes to, with so many instructions left, without log lines
-abbrev pub host_turn : ℕ → Hosted → List Sense → ℕ → Spot → HostNow → List Shown → Turned
-host_turn n h senses x spot s rows =
-    plain_turned (turn n x FIRST_NODE.0 (course_of senses x) (worst_times h) spot (Part.Host h s ∷ []) rows)
+abbrev pub host_turn : ℕ → Hosted → List TaskTimes → List Sense → ℕ → Spot → HostNow → List Shown → Turned
+host_turn n h times senses x spot s rows =
+    plain_turned (turn n x FIRST_NODE.0 (course_of senses x) (listed_times h times) spot (Part.Host h s ∷ []) rows)
 
 -- where a turn of the module stands
 abbrev pub spot_now : Standing → Spot
@@ -212,14 +217,15 @@ picked_by go h s rows None = Turned.Finished (Part.Host h s ∷ []) rows
 picked_by go h s rows (Some place) = go 0 place.block place.pc (Part.Host h s ∷ [])
 
 -- what a turn comes to after one step
-abbrev pub after_step : ℕ → Hosted → List Sense → ℕ → HostNow → List Shown → Stepped → Turned
-after_step n h senses x s rows Stepped.Finished = Turned.Finished (Part.Host h s ∷ []) (filter is_plain rows)
-after_step n h senses x s rows (Stepped.On standing) = host_turn n h senses x (spot_now standing) s rows
+abbrev pub after_step : ℕ → Hosted → List TaskTimes → List Sense → ℕ → HostNow → List Shown → Stepped → Turned
+after_step n h times senses x s rows Stepped.Finished = Turned.Finished (Part.Host h s ∷ []) (filter is_plain rows)
+after_step n h times senses x s rows (Stepped.On standing) = host_turn n h times senses x (spot_now standing) s rows
 
 -- ---- the machine
 
--- a module, its machine's greatest count of one instant, and its state
+-- a module, the listed times of jobs, its machine's greatest count of one instant, and its state
 pub record HostView : Type 0 where
   pub host : Hosted
+  pub times : List TaskTimes
   pub declared : ℕ
   pub now : HostNow

@@ -7,6 +7,7 @@ ghost use Rattle.tdl_verify.specs.States.{Part};
 ghost use Rattle.tdl_verify.specs.Turns.{Acted, output_rows, no_code};
 ghost use Rattle.tdl_node.specs.Machines.{IsTrap};
 ghost use Rattle.tdl_host.specs.CheckedCodes.{HasRoom};
+ghost use Rattle.tdl_host.specs.Lasting.{AreLasting};
 ghost use Rattle.tdl_host.specs.Hosts.{HasReleased, acts, value_at, went};
 
 use crate::seen::{Scene, put_values, value};
@@ -57,13 +58,13 @@ fn put_outputs(
 fn end(scene: Scene, state: &mut HostState, task: u16, rows: &mut Rows) -> Result<(), Stop>
     ensures host { state.new.host ≡ state.old.host }
     ensures ok { OnOk result
-        ((pc : ℕ) → acts state.old.host scene.entry.senses.now scene.entry.at rows.old
-        state.old.now pc (EInstr.End task)
+        ((pc : ℕ) → acts state.old.host scene.entry.times.now scene.entry.senses.now scene.entry.at
+        rows.old state.old.now pc (EInstr.End task)
         ≡ Acted.On (Part.Host state.old.host state.new.now) rows.new (suc pc)) }
     ensures trapped { IfErr result
         (IsTrap (λ reason. (pc : ℕ) →
-        acts state.old.host scene.entry.senses.now scene.entry.at rows.old state.old.now pc
-        (EInstr.End task) ≡ Acted.Stop reason)) }
+        acts state.old.host scene.entry.times.now scene.entry.senses.now scene.entry.at rows.old
+        state.old.now pc (EInstr.End task) ≡ Acted.Stop reason)) }
 {
     if !state.end(task)? {
         return Ok(());
@@ -87,8 +88,8 @@ fn actuator_kind(hosted: &Hosted, actuator: u16) -> Kind
 fn call(scene: Scene, state: &mut HostState, driver: u16, rows: &mut Rows) -> Result<(), NoMemory>
     ensures host { state.new.host ≡ state.old.host }
     ensures ok { OnOk result
-        ((pc : ℕ) → acts state.old.host scene.entry.senses.now scene.entry.at rows.old
-        state.old.now pc (EInstr.Call driver)
+        ((pc : ℕ) → acts state.old.host scene.entry.times.now scene.entry.senses.now scene.entry.at
+        rows.old state.old.now pc (EInstr.Call driver)
         ≡ Acted.On (Part.Host state.old.host state.new.now) rows.new (suc pc)) }
 {
     let hosted = state.hosted();
@@ -116,19 +117,20 @@ fn release(
     release: u16,
     numbers: &mut [i64],
 ) -> Result<(), Stop>
+    requires lasting { AreLasting scene.times.now }
     requires room { HasRoom state.old.host (length numbers.old) }
     requires released { HasReleased (2 ^ 64 - 2) state.old.now }
     ensures host { state.new.host ≡ state.old.host }
     ensures room { length numbers.new ≡ length numbers.old }
     ensures ok { OnOk result
         ((rows : List Shown) (pc : ℕ) →
-        acts state.old.host scene.entry.senses.now scene.entry.at rows state.old.now pc
-        (EInstr.Release release)
+        acts state.old.host scene.entry.times.now scene.entry.senses.now scene.entry.at rows
+        state.old.now pc (EInstr.Release release)
         ≡ Acted.On (Part.Host state.old.host state.new.now) rows (suc pc)) }
     ensures trapped { IfErr result
         (IsTrap (λ reason. (rows : List Shown) (pc : ℕ) →
-        acts state.old.host scene.entry.senses.now scene.entry.at rows state.old.now pc
-        (EInstr.Release release) ≡ Acted.Stop reason)) }
+        acts state.old.host scene.entry.times.now scene.entry.senses.now scene.entry.at rows
+        state.old.now pc (EInstr.Release release) ≡ Acted.Stop reason)) }
 {
     let hosted = state.hosted();
     let Some(release) = hosted.releases.get(usize::from(release)) else {
@@ -138,15 +140,20 @@ fn release(
         return Ok(());
     };
     put_values(scene, state, call.args.as_slice(), numbers);
-    state.start(call.task, *release, &numbers[..call.args.len()])
+    state.start(
+        scene.times,
+        call.task,
+        *release,
+        &numbers[..call.args.len()],
+    )
 }
 
 /// Enters a mode, and puts a row where the module was not in it.
 fn enter(scene: Scene, state: &mut HostState, mode: u16, rows: &mut Rows) -> Result<(), NoMemory>
     ensures host { state.new.host ≡ state.old.host }
     ensures ok { OnOk result
-        ((pc : ℕ) → acts state.old.host scene.entry.senses.now scene.entry.at rows.old
-        state.old.now pc (EInstr.Mode mode)
+        ((pc : ℕ) → acts state.old.host scene.entry.times.now scene.entry.senses.now scene.entry.at
+        rows.old state.old.now pc (EInstr.Mode mode)
         ≡ Acted.On (Part.Host state.old.host state.new.now) rows.new (suc pc)) }
 {
     let already = state.is_in(mode);
@@ -179,8 +186,9 @@ fn holds(scene: Scene, state: &HostState, guard: u16) -> bool
 fn branch(scene: Scene, state: &HostState, pc: usize, guard: u16, otherwise: u32) -> Next
     requires room { pc + 1 < 2 ^ 64 }
     ensures { (rows : List Shown) →
-        acts state.now.host scene.entry.senses.now scene.entry.at rows state.now.now pc
-        (EInstr.If guard otherwise) ≡ went result state.now.host state.now.now rows }
+        acts state.now.host scene.entry.times.now scene.entry.senses.now scene.entry.at rows
+        state.now.now pc (EInstr.If guard otherwise)
+        ≡ went result state.now.host state.now.now rows }
 {
     if !holds(scene, state, guard) {
         return Next::On(otherwise as usize);
@@ -198,16 +206,17 @@ pub fn act(
     rows: &mut Rows,
 ) -> Result<Next, Stop>
     requires place { pc + 1 < 2 ^ 64 }
+    requires lasting { AreLasting scene.times.now }
     requires room { HasRoom state.old.host (length numbers.old) }
     requires released { HasReleased (2 ^ 64 - 2) state.old.now }
     ensures host { state.new.host ≡ state.old.host }
     ensures room { length numbers.new ≡ length numbers.old }
     ensures ok { IfOk result
-        (λ next. acts state.old.host scene.entry.senses.now scene.entry.at rows.old state.old.now
-        pc instr ≡ went next state.old.host state.new.now rows.new) }
+        (λ next. acts state.old.host scene.entry.times.now scene.entry.senses.now scene.entry.at
+        rows.old state.old.now pc instr ≡ went next state.old.host state.new.now rows.new) }
     ensures trapped { IfErr result
-        (IsTrap (λ reason. acts state.old.host scene.entry.senses.now scene.entry.at rows.old
-        state.old.now pc instr ≡ Acted.Stop reason)) }
+        (IsTrap (λ reason. acts state.old.host scene.entry.times.now scene.entry.senses.now
+        scene.entry.at rows.old state.old.now pc instr ≡ Acted.Stop reason)) }
 {
     match instr {
         EInstr::Return => return Ok(Next::Over),

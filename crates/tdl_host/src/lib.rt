@@ -14,6 +14,7 @@ mod step;
 mod task;
 #[cfg(test)]
 mod tests;
+mod times;
 mod turn;
 
 pub use machine::HostMachine;

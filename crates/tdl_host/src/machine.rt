@@ -4,7 +4,7 @@ ghost use Rattle.tdl_image.specs.declared.hosted.CallEntry.{CallEntry};
 ghost use Rattle.tdl_verify.specs.Texts.{times_in};
 ghost use Rattle.tdl_node.specs.Machines.{IsOneHost, IsOffBus, IsBegun};
 ghost use Rattle.tdl_host.specs.CheckedCodes.{HasCheckedModules};
-ghost use Rattle.tdl_host.specs.Hosts.{worst_times};
+ghost use Rattle.tdl_host.specs.Lasting.{AreLasting};
 
 use crate::micro::run_micro;
 use crate::seen::Scene;
@@ -15,14 +15,15 @@ use std::marker::Model;
 use tdl_base::NoMemory;
 use tdl_image::{Bundle, CallEntry};
 use tdl_node::{Machine, Stop};
-use tdl_scen::Sense;
+use tdl_scen::{Sense, TaskTimes};
 use tdl_trace::Rows;
 
-/// A node that hosts one module, whose codes are lawful: the module's tables and state, and room
-/// for the arguments of each of its calls.
+/// A node that hosts one module, whose codes are lawful: the module's tables and state, the listed
+/// times of jobs, and room for the arguments of each of its calls.
 #[derive(Drop)]
 pub struct HostMachine<'a> {
     declared: u32,
+    times: &'a [TaskTimes],
     state: HostState<'a>,
     numbers: Vec<i64>,
 }
@@ -30,13 +31,20 @@ pub struct HostMachine<'a> {
 impl<'a> Model for HostMachine<'a> {
     ghost use Rattle.std.specs.Prelude.{length};
     ghost use Rattle.tdl_host.specs.CheckedCodes.{HasRoom};
+    ghost use Rattle.tdl_host.specs.Lasting.{AreLasting};
     ghost use Rattle.tdl_host.specs.Hosts.{HostView};
 
     ghost Value = { HostView };
 
-    ghost view = { λ m. record { host = m.state.host; declared = m.declared; now = m.state.now } };
+    ghost view = { λ m. record {
+      host = m.state.host;
+      times = m.times.now;
+      declared = m.declared;
+      now = m.state.now;
+    } };
 
-    ghost invariant = { λ m. HasRoom m.state.host (length m.numbers.items) };
+    ghost invariant = { λ m. HasRoom m.state.host (length m.numbers.items)
+        × AreLasting m.times.now };
 }
 
 fn greater(a: usize, b: usize) -> usize
@@ -61,10 +69,16 @@ fn most_arguments(calls: &[CallEntry]) -> usize
 }
 
 impl<'a> HostMachine<'a> {
-    /// The machine before instant 0: no mode, and a trigger at 0 for the entry block.
-    pub fn begin(alloc: Global, bundle: &'a Bundle) -> Result<HostMachine<'a>, NoMemory>
+    /// The machine before instant 0: no mode, and a trigger at 0 for the entry block. Its jobs take
+    /// the listed times, otherwise their worst cases.
+    pub fn begin(
+        alloc: Global,
+        bundle: &'a Bundle,
+        times: &'a [TaskTimes],
+    ) -> Result<HostMachine<'a>, NoMemory>
         requires one_host { IsOneHost bundle.now }
         requires codes { HasCheckedModules bundle.now }
+        requires lasting { AreLasting times.now }
         ensures begun { IfOk result
             (λ machine. IsBegun bundle.now (⟦<HostMachine<'a> as Machine>⟧.declared machine)
             (⟦<HostMachine<'a> as Machine>⟧.parts machine)) }
@@ -72,7 +86,7 @@ impl<'a> HostMachine<'a> {
         ensures off_bus { IfOk result
             (λ machine. IsOffBus (⟦<HostMachine<'a> as Machine>⟧.parts machine)) }
         ensures times { IfOk result
-            (λ machine. (s : Scenario) → s.times ≡ [] →
+            (λ machine. (s : Scenario) → s.times ≡ times.now →
             ⟦<HostMachine<'a> as Machine>⟧.times machine ≡ times_in bundle.now s) }
     {
         let Some(image) = bundle.images.get(0) else {
@@ -85,6 +99,7 @@ impl<'a> HostMachine<'a> {
         let numbers = vec![in alloc; 0i64; most_arguments(hosted.calls.as_slice())]?;
         Ok(HostMachine {
             declared: image.declared,
+            times,
             state,
             numbers,
         })
@@ -94,13 +109,13 @@ impl<'a> HostMachine<'a> {
 impl Machine for HostMachine<'_> {
     ghost use Rattle.std.specs.Prelude.{◌∷◌, [], ◌*◌, ◌^◌};
     ghost use Rattle.tdl_verify.specs.States.{Part};
-    ghost use Rattle.tdl_host.specs.Hosts.{HasReleased, worst_times};
+    ghost use Rattle.tdl_host.specs.Hosts.{HasReleased, listed_times};
 
     ghost declared = { λ m. m.declared };
 
     ghost parts = { λ m. Part.Host m.host m.now ∷ [] };
 
-    ghost times = { λ m. worst_times m.host };
+    ghost times = { λ m. listed_times m.host m.times };
 
     ghost ready = { λ m x. HasReleased (x * 2 ^ 32) m.now };
 
@@ -112,6 +127,7 @@ impl Machine for HostMachine<'_> {
         rows: &mut Rows,
     ) -> Result<(), Stop> {
         let scene = Scene {
+            times: self.times,
             senses,
             at: at as u32,
         };

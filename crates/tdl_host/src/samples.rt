@@ -31,7 +31,7 @@ fn list<T: Copy>(alloc: Global, items: &[T]) -> Result<Listed<T>, NoMemory>
 fn code(alloc: Global, shape: &Shape, instrs: &[Instr]) -> Result<Code, NoMemory>
     ensures { IfOk result (λ code. IsLawful code.instrs (shape_of shape.now)) }
 {
-    if !check_code(instrs, shape) {
+    if !check_code(alloc, instrs, shape)? {
         return Err(NoMemory);
     }
     Ok(Code {
@@ -72,6 +72,7 @@ const BLOCKS: [(u8, &[EInstr]); 5] = [
             EInstr::Mode(1),
             EInstr::Jump(3),
             EInstr::Mode(0),
+            EInstr::Future(5, 0),
             EInstr::Return,
         ],
     ),
@@ -127,7 +128,7 @@ fn load(alloc: Global, place: Place) -> Result<Code, NoMemory>
 }
 
 /// A module whose job has a window of so many microseconds from 1 on, an actuator that takes the
-/// output where the sensor is not 0, and a second mode.
+/// output where the sensor is not 0, and a second mode, from which it begins again.
 fn module(alloc: Global, length: u32) -> Result<Hosted, NoMemory>
     ensures off_bus { IfOk result (λ host. All (λ (w : ImageWindow). w.bus ≡ false) host.windows) }
     ensures codes { IfOk result HasCheckedCodes }

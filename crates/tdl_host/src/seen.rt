@@ -5,12 +5,13 @@ ghost use Rattle.tdl_host.specs.Hosts.{outer_at, value_at};
 use crate::state::HostState;
 use tdl_base::{PortKey, Us};
 use tdl_exec::{View, run_expr};
-use tdl_scen::{Sense, sensed_value};
+use tdl_scen::{Sense, TaskTimes, sensed_value};
 use tdl_stack::Code;
 
-/// An instant, and what is sensed.
+/// An instant, how long jobs take, and what is sensed.
 #[derive(Clone, Copy)]
 pub struct Scene<'a> {
+    pub times: &'a [TaskTimes],
     pub senses: &'a [Sense],
     pub at: u32,
 }

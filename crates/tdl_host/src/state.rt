@@ -1,20 +1,23 @@
 ghost use Rattle.std.specs.Prelude.{◌≡◌, ◌-◌, ◌^◌, true, false, IfOk, OnOk, IfErr, ℕ, List, slice_get, Some, None, length, ◌∷◌, []};
 ghost use Rattle.tdl_base.specs.Lists.{changed_at};
 ghost use Rattle.tdl_trace.specs.declared.why.Why.TheVariants as why;
+ghost use Rattle.tdl_scen.specs.Scenario.{time_of};
 ghost use Rattle.tdl_image.specs.declared.hosted.TaskTable.{TaskTable};
 ghost use Rattle.tdl_verify.specs.States.{Slot, Part, host_first};
 ghost use Rattle.tdl_verify.specs.Micros.{is_live, tasks_run};
 ghost use Rattle.tdl_verify.specs.Turns.{is_mode, phase_of};
 ghost use Rattle.tdl_node.specs.Machines.{IsTrapOf};
 ghost use Rattle.tdl_host.specs.CheckedCodes.{HasCheckedCodes};
+ghost use Rattle.tdl_host.specs.Lasting.{AreLasting};
 ghost use Rattle.tdl_host.specs.Hosts.{HasReleased, due_block, trigger_taken, task_outputs, slot_of, IsStartedAt, IsCommittedAt, IsLate, IsBusyAt};
 
 use crate::task::{TaskState, first_tasks, initials, work_all};
 use std::alloc::Global;
 use std::marker::Model;
-use tdl_base::NoMemory;
+use tdl_base::{NoMemory, TaskId};
 use tdl_image::{Hosted, ImageWindow, ReleaseEntry};
 use tdl_node::Stop;
+use tdl_scen::TaskTimes;
 
 /// An instant, and the block that runs then.
 #[derive(Clone, Copy, Debug, PartialEq, Eq)]
@@ -124,9 +127,16 @@ impl<'a> HostState<'a> {
         own.end()
     }
 
-    /// Releases a job of a task with these inputs, where it has none. Nothing changes where there
-    /// is no such task.
-    pub fn start(&mut self, task: u16, release: ReleaseEntry, inputs: &[i64]) -> Result<(), Stop>
+    /// Releases a job of a task with these inputs, where it has none; the job takes its listed
+    /// time. Nothing changes where there is no such task.
+    pub fn start(
+        &mut self,
+        times: &[TaskTimes],
+        task: u16,
+        release: ReleaseEntry,
+        inputs: &[i64],
+    ) -> Result<(), Stop>
+        requires lasting { AreLasting times.now }
         requires count { (table : TaskTable) → slice_get self.old.host.tasks task ≡ Some table →
             length inputs.now ≡ length table.inputs }
         requires released { HasReleased (2 ^ 64 - 2) self.old.now }
@@ -135,15 +145,19 @@ impl<'a> HostState<'a> {
             (slice_get self.old.host.tasks task ≡ None → self.new.now ≡ self.old.now) }
         ensures started { OnOk result
             ((table : TaskTable) → slice_get self.old.host.tasks task ≡ Some table →
-            IsStartedAt task release inputs.now table self.old.now self.new.now) }
+            IsStartedAt task release
+            (time_of times.now table.worst self.old.host.number.0 task) inputs.now table
+            self.old.now self.new.now) }
         ensures busy { IfErr result (IsTrapOf why.Busy (IsBusyAt task self.old)) }
     {
         let place = usize::from(task);
         if place >= self.tasks.len() {
             return Ok(());
         }
+        let owner = self.hosted.number;
         let own = &mut self.tasks[place];
-        own.start(release, inputs)
+        let time = own.next_time(times, owner, TaskId(task));
+        own.start(release, time, inputs)
     }
 
     /// Whether the module is in a mode.

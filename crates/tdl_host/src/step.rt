@@ -2,11 +2,13 @@ ghost use Rattle.std.specs.Prelude.{◌≡◌, ◌+◌, ◌-◌, ◌<◌, ◌^�
 ghost use Rattle.tdl_trace.specs.Shown.{Shown};
 ghost use Rattle.tdl_trace.specs.declared.why.Why.TheVariants as why;
 ghost use Rattle.tdl_scen.specs.declared.entries.Sense.{Sense};
+ghost use Rattle.tdl_scen.specs.declared.entries.TaskTimes.{TaskTimes};
 ghost use Rattle.tdl_verify.specs.States.{Part};
 ghost use Rattle.tdl_verify.specs.Turns.{Turned, picked, part_instr};
 ghost use Rattle.tdl_verify.specs.Runs.{is_plain};
 ghost use Rattle.tdl_node.specs.Machines.{IsTrap};
 ghost use Rattle.tdl_host.specs.CheckedCodes.{HasRoom};
+ghost use Rattle.tdl_host.specs.Lasting.{AreLasting};
 ghost use Rattle.tdl_host.specs.Hosts.{HasReleased, host_turn, spot_now, picked_by, after_step};
 
 use crate::act::{Next, act};
@@ -80,23 +82,24 @@ pub fn step(
     numbers: &mut [i64],
     rows: &mut Rows,
 ) -> Result<Stepped, Stop>
+    requires lasting { AreLasting scene.times.now }
     requires room { HasRoom state.old.host (length numbers.old) }
     requires released { HasReleased (2 ^ 64 - 2) state.old.now }
     ensures host { state.new.host ≡ state.old.host }
     ensures room { length numbers.new ≡ length numbers.old }
     ensures ok { IfOk result
         (λ next. (n : ℕ) →
-        host_turn (suc n) state.old.host scene.entry.senses.now scene.entry.at
+        host_turn (suc n) state.old.host scene.entry.times.now scene.entry.senses.now scene.entry.at
         (spot_now standing) state.old.now rows.old
-        ≡ after_step n state.old.host scene.entry.senses.now scene.entry.at state.new.now
-        rows.new next) }
+        ≡ after_step n state.old.host scene.entry.times.now scene.entry.senses.now scene.entry.at
+        state.new.now rows.new next) }
     ensures plain { OnOk result
         (filter is_plain rows.old ≡ rows.old → filter is_plain rows.new ≡ rows.new) }
     ensures released { OnOk result
         ((bound : ℕ) → HasReleased bound state.old.now → HasReleased (suc bound) state.new.now) }
     ensures trapped { IfErr result
         (IsTrap (λ reason. (n : ℕ) →
-        host_turn (suc n) state.old.host scene.entry.senses.now scene.entry.at
+        host_turn (suc n) state.old.host scene.entry.times.now scene.entry.senses.now scene.entry.at
         (spot_now standing) state.old.now rows.old ≡ Turned.Trapped reason)) }
 {
     let Some(place) = pick(scene.at, state, standing) else {
@@ -105,11 +108,9 @@ pub fn step(
     let Some(instr) = fetch(state, place) else {
         return Err(Stop::Trapped(Why::Lost));
     };
+    let block = place.block;
     match act(scene, state, place.pc, instr, numbers, rows)? {
-        Next::On(pc) => Ok(Stepped::On(Standing::At(Place {
-            block: place.block,
-            pc,
-        }))),
+        Next::On(pc) => Ok(Stepped::On(Standing::At(Place { block, pc }))),
         Next::Over => Ok(Stepped::On(Standing::Between)),
     }
 }
@@ -118,13 +119,13 @@ pub fn step(
 pub fn last(at: u32, state: &mut HostState, standing: Standing) -> Result<(), Stop>
     ensures host { state.new.host ≡ state.old.host }
     ensures ok { OnOk result
-        ((rows : List Shown) (senses : List Sense) →
-        host_turn zero state.old.host senses at (spot_now standing) state.old.now rows
+        ((rows : List Shown) (times : List TaskTimes) (senses : List Sense) →
+        host_turn zero state.old.host times senses at (spot_now standing) state.old.now rows
         ≡ Turned.Finished (Part.Host state.old.host state.new.now ∷ []) (filter is_plain rows)) }
     ensures tasks { OnOk result (state.new.now.tasks ≡ state.old.now.tasks) }
     ensures trapped { IfErr result
-        (IsTrap (λ reason. (rows : List Shown) (senses : List Sense) →
-        host_turn zero state.old.host senses at (spot_now standing) state.old.now rows
+        (IsTrap (λ reason. (rows : List Shown) (times : List TaskTimes) (senses : List Sense) →
+        host_turn zero state.old.host times senses at (spot_now standing) state.old.now rows
         ≡ Turned.Trapped reason)) }
 {
     let Some(place) = pick(at, state, standing) else {

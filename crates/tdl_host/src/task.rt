@@ -1,17 +1,21 @@
-ghost use Rattle.std.specs.Prelude.{◌≡◌, All, ◌<◌, ◌+◌, ◌^◌, true, false, IfOk, OnOk, IfErr, length, map, ◌∷◌, []};
+ghost use Rattle.std.specs.Prelude.{◌≡◌, suc, All, ◌<◌, ◌+◌, ◌^◌, true, false, IfOk, OnOk, IfErr, length, map, ◌∷◌, []};
 ghost use Rattle.tdl_trace.specs.declared.why.Why.TheVariants as why;
+ghost use Rattle.tdl_scen.specs.Scenario.{time_of};
 ghost use Rattle.tdl_verify.specs.States.{Slot as SlotNow, initial_values};
 ghost use Rattle.tdl_node.specs.Machines.{IsTrapOf};
 ghost use Rattle.tdl_task.specs.Jobs.{cells_of_shape};
 ghost use Rattle.tdl_host.specs.CheckedCodes.{IsCheckedTask, cells_of_table};
+ghost use Rattle.tdl_host.specs.Lasting.{AreLasting};
 ghost use Rattle.tdl_host.specs.Hosts.{TaskView, is_idle, with_job, IsCommitted, IsLate, first_view, worked_in};
 
 use crate::job::{put, slot_after, take};
+use crate::times::next_time;
 use std::alloc::Global;
 use std::marker::Model;
-use tdl_base::{Kind, Listed, ModeId, NoMemory};
+use tdl_base::{Kind, Listed, ModeId, ModuleId, NoMemory, TaskId};
 use tdl_image::{ImageWindow, Initial, ReleaseEntry, TaskTable};
 use tdl_node::Stop;
+use tdl_scen::TaskTimes;
 use tdl_task::{Idle, Job, Slot, TaskShape};
 use tdl_trace::Why;
 
@@ -143,13 +147,25 @@ impl<'a> TaskState<'a> {
         put(&mut self.slot, slot);
     }
 
-    /// Releases a job with these inputs, where there is none.
-    pub fn start(&mut self, release: ReleaseEntry, inputs: &[i64]) -> Result<(), Stop>
+    /// How long its next job takes, in microseconds, where this task of this module is its own.
+    pub fn next_time(&self, times: &[TaskTimes], module: ModuleId, task: TaskId) -> u64
+        requires { AreLasting times.now }
+        ensures is { result
+            ≡ time_of times.now self.now.table.worst module.0 task.0 (suc self.now.now.released) }
+        ensures lasts { 0 < result }
+    {
+        let worst = u64::from(self.table.worst);
+        next_time(times, module, task, self.released, worst)
+    }
+
+    /// Releases a job with these inputs, where there is none. It takes so many microseconds.
+    pub fn start(&mut self, release: ReleaseEntry, time: u64, inputs: &[i64]) -> Result<(), Stop>
+        requires lasts { 0 < time }
         requires count { length inputs.now ≡ length self.old.table.inputs }
         requires released { self.old.now.released + 1 < 2 ^ 64 }
         ensures idle { OnOk result (self.old.now.slot ≡ SlotNow.Idle) }
         ensures started { OnOk result
-            (self.new.now ≡ with_job self.old.table release inputs.now self.old.now) }
+            (self.new.now ≡ with_job self.old.table release time inputs.now self.old.now) }
         ensures busy { IfErr result (IsTrapOf why.Busy (is_idle self.old.now.slot ≡ false)) }
         ensures table { self.new.table ≡ self.old.table }
     {
@@ -158,7 +174,7 @@ impl<'a> TaskState<'a> {
                 let job = Job {
                     mode: ModeId(release.mode),
                     invocation: release.invocation,
-                    exec: u64::from(self.table.worst),
+                    exec: time,
                 };
                 let ready = idle.release(job, inputs, &self.outputs);
                 put(&mut self.slot, Slot::Ready(ready));

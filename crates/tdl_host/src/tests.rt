@@ -1,19 +1,20 @@
-ghost use Rattle.std.specs.Prelude.{◌≡◌, ◌≤◌, [], IfOk};
+ghost use Rattle.std.specs.Prelude.{◌≡◌, ◌≤◌, ◌<◌, [], All, IfOk};
 ghost use Rattle.tdl_base.specs.declared.limits.TheConstants.{HORIZON_US};
 ghost use Rattle.tdl_node.specs.Machines.{IsOneHost};
 ghost use Rattle.tdl_host.specs.CheckedCodes.{HasCheckedModules};
+ghost use Rattle.tdl_host.specs.Lasting.{AreLasting};
 
 use crate::HostMachine;
 use crate::samples::alone;
 use std::alloc::Global;
 use std::process::Abort;
 use std::test::Fail;
-use tdl_base::{FIRST_NODE, ModeId, ModuleId, NoMemory, TaskId, Us};
+use tdl_base::{FIRST_NODE, Listed, ModeId, ModuleId, NoMemory, TaskId, Us};
 use tdl_image::Bundle;
 use tdl_make::plain_bundle;
 use tdl_node::{Machine, Stop};
 use tdl_plain::counting_form;
-use tdl_scen::Sense;
+use tdl_scen::{Sense, TaskTimes};
 use tdl_trace::{Row, Rows, Why};
 
 fn counting_bundle(alloc: Global) -> Result<Bundle, NoMemory>
@@ -53,13 +54,21 @@ fn go_to<M: Machine>(
 }
 
 /// Runs a new machine up to an instant, and leaves the rows of that instant.
-fn run_to(alloc: Global, bundle: &Bundle, value: i64, end: u64, rows: &mut Rows) -> Result<(), Stop>
+fn run_to(
+    alloc: Global,
+    bundle: &Bundle,
+    times: &[TaskTimes],
+    value: i64,
+    end: u64,
+    rows: &mut Rows,
+) -> Result<(), Stop>
     requires end { end ≤ HORIZON_US }
     requires one_host { IsOneHost bundle.now }
     requires codes { HasCheckedModules bundle.now }
+    requires lasting { AreLasting times.now }
     requires empty { rows.old ≡ [] }
 {
-    let mut machine = HostMachine::begin(alloc, bundle)?;
+    let mut machine = HostMachine::begin(alloc, bundle, times)?;
     go_to(alloc, &mut machine, &sensed(value), end, rows)
 }
 
@@ -97,10 +106,10 @@ fn counts_in_each_cycle(rt: HostRuntime) -> Result<(), Fail> {
     let alloc = rt.alloc();
     let bundle = counting_bundle(alloc)?;
     let mut rows = Rows::new(alloc);
-    run_to(alloc, &bundle, 3, 0, &mut rows)?;
+    run_to(alloc, &bundle, &[], 3, 0, &mut rows)?;
     check_rows(&rt, &rows, &[entered(0, 0)]);
     rows.clear();
-    run_to(alloc, &bundle, 3, 5000, &mut rows)?;
+    run_to(alloc, &bundle, &[], 3, 5000, &mut rows)?;
     check_rows(&rt, &rows, &[committed(5000, 13)]);
     Ok(())
 }
@@ -117,10 +126,10 @@ fn updates_where_the_guard_holds(rt: HostRuntime) -> Result<(), Fail> {
         value: 45,
     };
     let mut rows = Rows::new(alloc);
-    run_to(alloc, &bundle, 300, 5, &mut rows)?;
+    run_to(alloc, &bundle, &[], 300, 5, &mut rows)?;
     check_rows(&rt, &rows, &[committed(5, 301), updated, entered(5, 1)]);
     let mut rows = Rows::new(alloc);
-    run_to(alloc, &bundle, 0, 5, &mut rows)?;
+    run_to(alloc, &bundle, &[], 0, 5, &mut rows)?;
     check_rows(&rt, &rows, &[committed(5, 1), entered(5, 1)]);
     Ok(())
 }
@@ -130,11 +139,45 @@ fn traps(rt: HostRuntime) -> Result<(), Fail> {
     let alloc = rt.alloc();
     let late = alone(alloc, 13, 1)?;
     let mut rows = Rows::new(alloc);
-    let end = run_to(alloc, &late, 0, 5, &mut rows);
+    let end = run_to(alloc, &late, &[], 0, 5, &mut rows);
     assert_eq!(rt; end, Err(Stop::Trapped(Why::Late)));
     let short = alone(alloc, 5, 2)?;
     let mut rows = Rows::new(alloc);
-    let end = run_to(alloc, &short, 0, 5, &mut rows);
+    let end = run_to(alloc, &short, &[], 0, 5, &mut rows);
     assert_eq!(rt; end, Err(Stop::Trapped(Why::Budget)));
+    Ok(())
+}
+
+// The times of jobs of a task of the module.
+fn listed(alloc: Global, task: u16, time: u64) -> Result<TaskTimes, NoMemory>
+    requires { 0 < time }
+    ensures { IfOk result (λ entry. All (λ time. 0 < time) entry.times) }
+{
+    Ok(TaskTimes {
+        module: MODULE,
+        task: TaskId(task),
+        times: Listed::only(alloc, time)?,
+    })
+}
+
+#[test]
+fn takes_listed_times_then_the_worst_case(rt: HostRuntime) -> Result<(), Fail> {
+    let alloc = rt.alloc();
+    let bundle = alone(alloc, 13, 1)?;
+    let once = [listed(alloc, 0, 1)?];
+    let mut rows = Rows::new(alloc);
+    run_to(alloc, &bundle, &once, 0, 5, &mut rows)?;
+    check_rows(&rt, &rows, &[committed(5, 1), entered(5, 1)]);
+    let mut rows = Rows::new(alloc);
+    let end = run_to(alloc, &bundle, &once, 0, 15, &mut rows);
+    assert_eq!(rt; end, Err(Stop::Trapped(Why::Late)));
+    let twice = [
+        listed(alloc, 0, 1)?,
+        listed(alloc, 1, 2)?,
+        listed(alloc, 0, 1)?,
+    ];
+    let mut rows = Rows::new(alloc);
+    run_to(alloc, &bundle, &twice, 0, 15, &mut rows)?;
+    check_rows(&rt, &rows, &[committed(15, 1), entered(15, 1)]);
     Ok(())
 }

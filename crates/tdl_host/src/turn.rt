@@ -4,6 +4,7 @@ ghost use Rattle.tdl_verify.specs.States.{Part};
 ghost use Rattle.tdl_verify.specs.Turns.{Turned, Spot};
 ghost use Rattle.tdl_node.specs.Machines.{IsTrap};
 ghost use Rattle.tdl_host.specs.CheckedCodes.{HasRoom};
+ghost use Rattle.tdl_host.specs.Lasting.{AreLasting};
 ghost use Rattle.tdl_host.specs.Hosts.{HasReleased, host_turn};
 
 use crate::seen::Scene;
@@ -23,18 +24,20 @@ pub fn run_turn(
 ) -> Result<(), Stop>
     requires empty { rows.old ≡ [] }
     requires instant { scene.at ≤ HORIZON_US }
+    requires lasting { AreLasting scene.times.now }
     requires room { HasRoom state.old.host (length numbers.old) }
     requires released { HasReleased (scene.at * 2 ^ 32) state.old.now }
     ensures host { state.new.host ≡ state.old.host }
     ensures room { length numbers.new ≡ length numbers.old }
     ensures ok { OnOk result
-        (host_turn declared state.old.host scene.entry.senses.now scene.entry.at Spot.Between
-        state.old.now []
+        (host_turn declared state.old.host scene.entry.times.now scene.entry.senses.now
+        scene.entry.at Spot.Between state.old.now []
         ≡ Turned.Finished (Part.Host state.old.host state.new.now ∷ []) rows.new) }
     ensures released { OnOk result (HasReleased (suc scene.entry.at * 2 ^ 32) state.new.now) }
     ensures trapped { IfErr result
-        (IsTrap (λ reason. host_turn declared state.old.host scene.entry.senses.now
-        scene.entry.at Spot.Between state.old.now [] ≡ Turned.Trapped reason)) }
+        (IsTrap (λ reason. host_turn declared state.old.host scene.entry.times.now
+        scene.entry.senses.now scene.entry.at Spot.Between state.old.now []
+        ≡ Turned.Trapped reason)) }
 {
     let mut standing = Standing::Between;
     for _done in 0..declared {

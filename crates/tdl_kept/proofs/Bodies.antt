@@ -3,9 +3,10 @@ use Rattle.std.proofs.Common.{◌≡◌, ℕ, ◌+◌, ◌<◌, ◌≤◌, List,
 use Rattle.std.specs.Prelude.{slice_get, nat_lt, IfSome}
 use Rattle.std.proofs.lemmas.Bool.{ltb-false}
 use Rattle.std.proofs.lemmas.List.{length-map}
-use Rattle.std.proofs.lemmas.List.Elements.{All-nil, All-cons, All-same, All-weaker}
-use Rattle.tdl_base.specs.declared.limits.TheConstants.{REPEAT, STEPS}
-use Rattle.tdl_body.specs.Bounds.{exprs_of, targets_of, counts_of, steps_of}
+use Rattle.std.proofs.lemmas.List.Elements.{All-nil, All-cons, All-head, All-same, All-weaker}
+use Rattle.tdl_kept.proofs.Identifiers.{all-at}
+use Rattle.tdl_base.specs.declared.limits.TheConstants.{NESTED_BLOCKS, REPEAT, STEPS}
+use Rattle.tdl_body.specs.Bounds.{IsBoundedExpr, exprs_of, targets_of, counts_of, levels_of, steps_of}
 use Rattle.tdl_body.specs.CellUse.{UsesCells}
 use Rattle.tdl_mode.specs.declared.program.Invocation.{Invocation}
 use Rattle.tdl_mode.specs.declared.program.Update.{Update}
@@ -45,8 +46,11 @@ use Rattle.tdl_program.proofs.Scopes.{scope_at, module-from, at_declaration, at_
 use Rattle.tdl_program.proofs.Singles.{task_of, task-from, mode_of, mode-from}
 use Rattle.tdl_resolve.specs.Turns.{turns_in}
 use Rattle.tdl_resolve.proofs.Turns.{turns-kept}
-use Rattle.tdl_kept.specs.Bodies.{IsShallow, TaskBody, ModeDepths, ModuleBodies, KeepsBodies}
-use Rattle.tdl_kept.proofs.Depths.{shallow, all_shallow, guard_shallow}
+use Rattle.tdl_kept.specs.Bodies.{TaskBody, ModeBounds, ModuleBodies, KeepsBodies}
+use Rattle.tdl_kept.proofs.BoundedExpressions.{bounded, all_bounded, guard_bounded}
+use Rattle.tdl_kept.proofs.Levels.{body-levels}
+use Rattle.tdl_size.proofs.Gives.{all-front, all-back}
+use Rattle.tdl_size.specs.Sized.{IsSmall, IsSmallStatement, IsSmallActivity, IsSized, IsSizedBody, IsSizedDecl}
 use Rattle.tdl_kept.proofs.OwnCells.{inside, cells, ReadsOwn, MaySet, expression-own, target-own}
 use Rattle.tdl_kept.proofs.StatementLists.{all-each}
 use Rattle.tdl_kept.proofs.BodyParts.{body-exprs, body-targets, target_at, body-counts, count_at, body-steps}
@@ -56,7 +60,8 @@ use Rattle.tdl_kept.proofs.BodyParts.{body-exprs, body-targets, target_at, body-
 module _ (sources : List Tree) (none : faults sources ≡ []) (k : ℕ) (tree : Tree)
     (source : slice_get sources k ≡ Some tree) (j : ℕ) (public : Bool) (name : Id) (worst : Time)
     (ports : List PortDecl)
-    (body : List StmtTree) (declared : slice_get tree.decls j ≡ Some (decl.Task public name worst ports body)) where
+    (body : List StmtTree) (declared : slice_get tree.decls j ≡ Some (decl.Task public name worst ports body))
+    (sized : IsSizedBody body) where
   -- the rules that are kept
   abbrev good : Faultless sources
   good = faultless sources none
@@ -89,19 +94,24 @@ module _ (sources : List Tree) (none : faults sources ≡ []) (k : ℕ) (tree : 
       (all-each (ReadsOwn outside ports) (λ (s : StmtTree). map (expression_of own) (expressions_of (out-StmtTree s)))
       (body_statements body) (λ n s at. all-own (expressions_of (out-StmtTree s))))
 
-  -- they are not deep
-  shallow-kept : in_statements (λ scope statement. each (c19_outermost scope) (expressions_of statement)) sources ≡ []
-  shallow-kept =
+  -- they are bounded
+  depths-kept : in_statements (λ scope statement. each (c19_outermost scope) (expressions_of statement)) sources ≡ []
+  depths-kept =
       (empty-parts (in_statements (λ scope statement. each (c19_outermost scope) (expressions_of statement)) sources)
       (in_activities (λ scope period activity. each (c19_outermost scope) (activity_expressions activity)) sources)
       good.depths).0
 
-  depths : All IsShallow (exprs_of (body_of outside ports body))
-  depths =
-      All-same IsShallow _ _ (body-exprs own body)
-      (all-each IsShallow (λ (s : StmtTree). map (expression_of own) (expressions_of (out-StmtTree s)))
-      (body_statements body) (λ n s at. all_shallow own (expressions_of (out-StmtTree s))
-      (kept-at (λ scope statement. each (c19_outermost scope) (expressions_of statement)) shallow-kept n s at)))
+  exprs : All IsBoundedExpr (exprs_of (body_of outside ports body))
+  exprs =
+      All-same IsBoundedExpr _ _ (body-exprs own body)
+      (all-each IsBoundedExpr (λ (s : StmtTree). map (expression_of own) (expressions_of (out-StmtTree s)))
+      (body_statements body) (λ n s at. all_bounded own (expressions_of (out-StmtTree s))
+      (kept-at (λ scope statement. each (c19_outermost scope) (expressions_of statement)) depths-kept n s at)
+      (all-at IsSmallStatement (body_statements body) n s sized.statements at)))
+
+  -- few blocks stand in one another
+  few_levels : levels_of (body_of outside ports body) ≤ NESTED_BLOCKS
+  few_levels = subst (λ n. n ≤ NESTED_BLOCKS) (sym (body-levels own body)) sized.levels
 
   -- targets are cells of outputs and locals
   layer-sets : (layer : StmtTree-F StmtTree) → c3_target own layer ≡ [] → c6_statement own layer ≡ [] →
@@ -169,16 +179,15 @@ module _ (sources : List Tree) (none : faults sources ≡ []) (k : ℕ) (tree : 
     targets = subst (λ n. All (λ c. n ≤ c) (targets_of (body_of outside ports body))) (sym (as_many sort.Input))
         (All-weaker (MaySet outside ports) (λ c. length (ports_of sort.Input ports) ≤ c) (λ c may. may.0)
         (targets_of (body_of outside ports body)) sets);
-    depths = depths;
-    turns = turns;
-    steps = few_steps;
+    bounds = record { exprs = exprs; levels = few_levels; counts = turns; steps = few_steps };
   }
 
 -- ---- what a mode evaluates
 
 module _ (sources : List Tree) (none : faults sources ≡ []) (k : ℕ) (tree : Tree)
     (source : slice_get sources k ≡ Some tree) (j : ℕ) (start : Bool) (name : Id) (period : Time) (acts : List Act)
-    (declared : slice_get tree.decls j ≡ Some (decl.Mode start name period acts)) where
+    (declared : slice_get tree.decls j ≡ Some (decl.Mode start name period acts))
+    (sized : All IsSmallActivity acts) where
   -- where the mode stands
   abbrev home : Scope
   home = scope_at sources k tree
@@ -190,6 +199,14 @@ module _ (sources : List Tree) (none : faults sources ≡ []) (k : ℕ) (tree : 
       (empty-parts (in_statements (λ scope statement. each (c19_outermost scope) (expressions_of statement)) sources)
       (in_activities (λ scope period activity. each (c19_outermost scope) (activity_expressions activity)) sources)
       (faultless sources none).depths).1
+
+  small : (n : ℕ) (activity : Act) → slice_get acts n ≡ Some activity →
+      All IsSmall (expressions_in activity.what) × All IsSmall (guard_expressions activity.guard)
+  small n activity at =
+      let own = all-at IsSmallActivity acts n activity sized at in (
+        all-front IsSmall (expressions_in activity.what) (guard_expressions activity.guard) own,
+        all-back IsSmall (expressions_in activity.what) (guard_expressions activity.guard) own,
+      )
 
   activity-kept : (n : ℕ) (activity : Act) → slice_get acts n ≡ Some activity →
       (each (c19_outermost home) (expressions_in activity.what) ≡ [])
@@ -204,53 +221,64 @@ module _ (sources : List Tree) (none : faults sources ≡ []) (k : ℕ) (tree : 
       (record { start = start; name = name; source = source; declared = declared }) at)
 
   -- an invocation
-  invocation-shallow : (i : Invocation) → Invokes home (time_us period) acts i →
-      IfSome i.guard IsShallow × All IsShallow i.args
-  invocation-shallow i a =
+  invocation-bounded : (i : Invocation) → Invokes home (time_us period) acts i →
+      IfSome i.guard IsBoundedExpr × All IsBoundedExpr i.args
+  invocation-bounded i a =
       let kept = activity-kept i.act a.activity a.at in
-      subst (λ (i : Invocation). IfSome i.guard IsShallow × All IsShallow i.args) a.is (
-        guard_shallow home a.activity.guard kept.1,
-        all_shallow home a.args
-            (subst (λ (what : ActKind). each (c19_outermost home) (expressions_in what) ≡ []) a.what kept.0),
+      let few = small i.act a.activity a.at in
+      subst (λ (i : Invocation). IfSome i.guard IsBoundedExpr × All IsBoundedExpr i.args) a.is (
+        guard_bounded home a.activity.guard kept.1 few.1,
+        all_bounded home a.args
+            (subst (λ (what : ActKind). each (c19_outermost home) (expressions_in what) ≡ []) a.what kept.0)
+            (subst (λ (what : ActKind). All IsSmall (expressions_in what)) a.what few.0),
       )
 
   -- an update
-  update-shallow : (u : Update) → Updates home (time_us period) acts u → IfSome u.guard IsShallow × IsShallow u.value
-  update-shallow u a =
+  update-bounded : (u : Update) → Updates home (time_us period) acts u →
+      IfSome u.guard IsBoundedExpr × IsBoundedExpr u.value
+  update-bounded u a =
       let kept = activity-kept u.act a.activity a.at in
-      subst (λ (u : Update). IfSome u.guard IsShallow × IsShallow u.value) a.is (
-        guard_shallow home a.activity.guard kept.1,
-        shallow home a.value (empty-parts (c19_outermost home a.value) []
-            (subst (λ (what : ActKind). each (c19_outermost home) (expressions_in what) ≡ []) a.what kept.0)).0,
+      let few = small u.act a.activity a.at in
+      let value = subst (λ (what : ActKind). each (c19_outermost home) (expressions_in what) ≡ []) a.what kept.0 in
+      subst (λ (u : Update). IfSome u.guard IsBoundedExpr × IsBoundedExpr u.value) a.is (
+        guard_bounded home a.activity.guard kept.1 few.1,
+        bounded home a.value (empty-parts (c19_outermost home a.value) [] value).0
+            (All-head IsSmall a.value []
+            (subst (λ (what : ActKind). All IsSmall (expressions_in what)) a.what few.0)),
       )
 
   -- a switch
-  switch-shallow : (w : Switch) → Switches home (time_us period) acts w → IfSome w.guard IsShallow
-  switch-shallow w a =
-      subst (λ (w : Switch). IfSome w.guard IsShallow) a.is
-      (guard_shallow home a.activity.guard (activity-kept w.act a.activity a.at).1)
+  switch-bounded : (w : Switch) → Switches home (time_us period) acts w → IfSome w.guard IsBoundedExpr
+  switch-bounded w a =
+      subst (λ (w : Switch). IfSome w.guard IsBoundedExpr) a.is
+      (guard_bounded home a.activity.guard (activity-kept w.act a.activity a.at).1 (small w.act a.activity a.at).1)
 
   -- the mode
-  pub mode_depths : ModeDepths (mode_of home name period acts)
-  mode_depths = record {
-    invocations = λ q i at. invocation-shallow i (invocation-from home (time_us period) acts q i at);
-    updates = λ q u at. update-shallow u (update-from home (time_us period) acts q u at);
-    switches = λ q w at. switch-shallow w (switch-from home (time_us period) acts q w at);
+  pub mode_bounds : ModeBounds (mode_of home name period acts)
+  mode_bounds = record {
+    invocations = λ q i at. invocation-bounded i (invocation-from home (time_us period) acts q i at);
+    updates = λ q u at. update-bounded u (update-from home (time_us period) acts q u at);
+    switches = λ q w at. switch-bounded w (switch-from home (time_us period) acts q w at);
   }
 
--- sources that break no rule say a program that keeps the bounds of its bodies
-pub keeps_bodies : (sources : List Tree) → faults sources ≡ [] → KeepsBodies (program_of sources)
-keeps_bodies sources none = record {
+-- sources within the limits that break no rule say a program that keeps the bounds of its bodies
+pub keeps_bodies : (sources : List Tree) → faults sources ≡ [] → All IsSized sources → KeepsBodies (program_of sources)
+keeps_bodies sources none all = record {
   modules = λ k m at.
       let f = module-from sources k m at in
+      let sized = all-at IsSized sources k f.tree all f.at in
       subst ModuleBodies f.is (record {
         tasks = λ n task at'.
             let t = task-from (scope_at sources k f.tree) f.tree.decls n task at' in
+            let own = all-at IsSizedDecl f.tree.decls t.place (decl.Task t.public t.name t.worst t.ports t.body)
+            sized.decls t.at in
             subst TaskBody t.is
-            (task_body sources none k f.tree f.at t.place t.public t.name t.worst t.ports t.body t.at);
+            (task_body sources none k f.tree f.at t.place t.public t.name t.worst t.ports t.body t.at own.2);
         modes = λ n mode at'.
             let d = mode-from (scope_at sources k f.tree) f.tree.decls n mode at' in
-            subst ModeDepths d.is
-            (mode_depths sources none k f.tree f.at d.place d.start d.name d.period d.acts d.at);
+            let own = all-at IsSizedDecl f.tree.decls d.place (decl.Mode d.start d.name d.period d.acts)
+            sized.decls d.at in
+            subst ModeBounds d.is
+            (mode_bounds sources none k f.tree f.at d.place d.start d.name d.period d.acts d.at own.1);
       });
 }

@@ -1,8 +1,9 @@
--- The program of sources that break no rule keeps its counts and the kinds of its numbers.
+-- The program of sources that break no rule keeps its counts, its times and the kinds of its numbers.
 use Rattle.std.proofs.Common.{◌≡◌, ℕ, ◌+◌, ◌≤◌, List, [], ◌∷◌, map, length, Some, subst, arith}
 use Rattle.std.specs.Prelude.{slice_get}
 use Rattle.std.proofs.lemmas.List.{length-map}
-use Rattle.tdl_base.specs.declared.limits.TheConstants.{PORTS}
+use Rattle.tdl_base.specs.declared.limits.TheConstants.{PERIOD_US, PORTS}
+use Rattle.tdl_mode.specs.declared.program.Mode.{Mode}
 use Rattle.tdl_mode.specs.declared.program.Task.{Task}
 use Rattle.tdl_tree.specs.declared.declarations.Decl.TheVariants as decl
 use Rattle.tdl_tree.specs.declared.declarations.PortDecl.{PortDecl}
@@ -14,10 +15,11 @@ use Rattle.tdl_program.specs.Ordinals.{ports_of}
 use Rattle.tdl_program.specs.Programs.{program_of, module_of, port_of}
 use Rattle.tdl_program.proofs.Faultless.{faultless}
 use Rattle.tdl_program.proofs.Scopes.{scope_at, module-from}
-use Rattle.tdl_program.proofs.Singles.{task-from}
+use Rattle.tdl_program.proofs.Singles.{mode-from, task-from}
 use Rattle.tdl_resolve.proofs.Kept.{few_ports_of}
 use Rattle.tdl_kept.specs.Counts.{TaskCounts, ModuleCounts, KeepsCounts}
 use Rattle.tdl_kept.proofs.KindsOfNumbers.{constants_of_kind, sensors_of_kind, actuators_of_kind, ports_of_kind}
+use Rattle.tdl_kept.proofs.Lasting.{short_period, short_worst}
 use Rattle.tdl_kept.proofs.Summing.{few_occurrences}
 
 -- ports are inputs, outputs and locals
@@ -55,10 +57,20 @@ module _ (sources : List Tree) (none : faults sources ≡ []) (k : ℕ) (tree : 
       let sorts = by_sort f.ports in
       subst TaskCounts f.is (record {
         ports = omega (arith, few, inputs, outputs, locals, sorts);
+        worst = short_worst sources (faultless sources none) k f.place tree source f.public f.name f.worst f.ports
+            f.body f.at;
         inputs = ports_of_kind sort.Input f.ports;
         outputs = ports_of_kind sort.Output f.ports;
         locals = ports_of_kind sort.Local f.ports;
       })
+
+  -- each period is at most so long
+  periods : (n : ℕ) (mode : Mode) → slice_get (module_of (scope_at sources k tree)).modes n ≡ Some mode →
+      mode.period.0 ≤ PERIOD_US
+  periods n mode at =
+      let f = mode-from (scope_at sources k tree) tree.decls n mode at in
+      subst (λ (mode : Mode). mode.period.0 ≤ PERIOD_US) f.is
+      (short_period sources (faultless sources none) k f.place tree source f.start f.name f.period f.acts f.at)
 
   -- so does the module
   module_counts : ModuleCounts (module_of (scope_at sources k tree))
@@ -67,6 +79,7 @@ module _ (sources : List Tree) (none : faults sources ≡ []) (k : ℕ) (tree : 
     sensors = sensors_of_kind tree.decls;
     actuators = actuators_of_kind tree.decls;
     tasks = task_counts;
+    periods = periods;
   }
 
 -- sources that break no rule say a program that keeps them

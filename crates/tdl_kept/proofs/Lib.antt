@@ -1,10 +1,14 @@
 pub mod Summing
 pub mod KindsOfNumbers
+pub mod Lasting
 pub mod Counts
-pub mod Depths
+pub mod Measured
+pub mod BoundedExpressions
 pub mod OwnCells
 pub mod StatementLists
 pub mod BodyParts
+pub mod Levels
+pub mod Identifiers
 pub mod Bodies
 pub mod Differing
 pub mod Drawn

@@ -1,8 +1,6 @@
--- What bodies read and set, how long they are, and how deep expressions are.
+-- What bodies read and set, and that bodies and expressions are bounded.
 use Rattle.std.specs.Prelude.{◌≡◌, ℕ, ◌+◌, ◌≤◌, All, IfSome, Some, length, slice_get}
-use Rattle.tdl_base.specs.declared.limits.TheConstants.{EXPRESSION_DEPTH, REPEAT, STEPS}
-use Rattle.tdl_body.specs.declared.tree.Expr.{Expr}
-use Rattle.tdl_body.specs.Bounds.{depth_of, exprs_of, counts_of, steps_of, targets_of}
+use Rattle.tdl_body.specs.Bounds.{IsBounded, IsBoundedExpr, targets_of}
 use Rattle.tdl_body.specs.CellUse.{UsesCells}
 use Rattle.tdl_mode.specs.declared.program.Program.{Program}
 use Rattle.tdl_mode.specs.declared.program.Module.{Module}
@@ -12,30 +10,24 @@ use Rattle.tdl_mode.specs.declared.program.Invocation.{Invocation}
 use Rattle.tdl_mode.specs.declared.program.Update.{Update}
 use Rattle.tdl_mode.specs.declared.program.Switch.{Switch}
 
--- an expression is at most so deep
-abbrev pub IsShallow : Expr → Type 0
-IsShallow e = depth_of e ≤ EXPRESSION_DEPTH
-
--- the body of a task reads and sets its own cells alone, sets no input, and is not long
+-- the body of a task reads and sets its own cells alone, sets no input, and is bounded
 pub record TaskBody (task : Task) : Type 0 where
   pub cells : UsesCells (length task.inputs + length task.outputs + length task.locals) task.body
   pub targets : All (λ cell. length task.inputs ≤ cell) (targets_of task.body)
-  pub depths : All IsShallow (exprs_of task.body)
-  pub turns : All (λ count. count ≤ REPEAT) (counts_of task.body)
-  pub steps : steps_of task.body ≤ STEPS
+  pub bounds : IsBounded task.body
 
--- what a mode evaluates is not deep
-pub record ModeDepths (mode : Mode) : Type 0 where
+-- what a mode evaluates is bounded
+pub record ModeBounds (mode : Mode) : Type 0 where
   pub invocations : (q : ℕ) (i : Invocation) → slice_get mode.invocations q ≡ Some i →
-      IfSome i.guard IsShallow × All IsShallow i.args
+      IfSome i.guard IsBoundedExpr × All IsBoundedExpr i.args
   pub updates : (q : ℕ) (u : Update) → slice_get mode.updates q ≡ Some u →
-      IfSome u.guard IsShallow × IsShallow u.value
-  pub switches : (q : ℕ) (w : Switch) → slice_get mode.switches q ≡ Some w → IfSome w.guard IsShallow
+      IfSome u.guard IsBoundedExpr × IsBoundedExpr u.value
+  pub switches : (q : ℕ) (w : Switch) → slice_get mode.switches q ≡ Some w → IfSome w.guard IsBoundedExpr
 
 -- each task and each mode of a module
 pub record ModuleBodies (m : Module) : Type 0 where
   pub tasks : (n : ℕ) (task : Task) → slice_get m.tasks n ≡ Some task → TaskBody task
-  pub modes : (n : ℕ) (mode : Mode) → slice_get m.modes n ≡ Some mode → ModeDepths mode
+  pub modes : (n : ℕ) (mode : Mode) → slice_get m.modes n ≡ Some mode → ModeBounds mode
 
 -- each module of a program
 pub record KeepsBodies (program : Program) : Type 0 where

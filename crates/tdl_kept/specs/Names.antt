@@ -1,8 +1,9 @@
--- Names that differ, and modules that are imported once.
-use Rattle.std.specs.Prelude.{◌≡◌, ℕ, ◌++◌, List, map, Some, slice_get}
+-- Names that are identifiers and differ, and modules that are imported once.
+use Rattle.std.specs.Prelude.{◌≡◌, ℕ, ◌++◌, All, List, map, Some, slice_get}
 use Rattle.tdl_mode.specs.declared.program.Program.{Program}
 use Rattle.tdl_mode.specs.declared.program.Module.{Module}
 use Rattle.tdl_mode.specs.declared.program.Task.{Task}
+use Rattle.tdl_size.specs.Sized.{IsIdentifier}
 
 -- no item stands at two places
 abbrev pub Differ : {A : Type 0} → List A → Type 0
@@ -32,3 +33,13 @@ pub record ModuleNames (m : Module) : Type 0 where
 pub record KeepsNames (program : Program) : Type 0 where
   pub names : Differ (map (λ m. m.name) program.modules)
   pub modules : (k : ℕ) (m : Module) → slice_get program.modules k ≡ Some m → ModuleNames m
+
+-- the names of a module are identifiers
+pub record ModuleIdentifiers (m : Module) : Type 0 where
+  pub own : IsIdentifier m.name
+  pub parts : All IsIdentifier (part_names m)
+  pub ports : (n : ℕ) (task : Task) → slice_get m.tasks n ≡ Some task → All IsIdentifier (port_names task)
+
+-- those of each module are
+pub record HasIdentifiers (program : Program) : Type 0 where
+  pub modules : (k : ℕ) (m : Module) → slice_get program.modules k ≡ Some m → ModuleIdentifiers m

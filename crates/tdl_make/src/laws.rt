@@ -1,5 +1,5 @@
 //! Laws of plain programs. Each function does nothing: its contract is the law.
-ghost use Rattle.std.specs.Prelude.{◌≡◌, []};
+ghost use Rattle.std.specs.Prelude.{◌≡◌, All};
 ghost use Rattle.tdl_deploy.specs.AtRelease.{schedule_at_release};
 ghost use Rattle.tdl_deploy.specs.Named.{one_node};
 ghost use Rattle.tdl_deploy.specs.Texts.{logical_text};
@@ -12,8 +12,9 @@ ghost use Rattle.tdl_plain.specs.PlainSource.{IsPlainForm};
 ghost use Rattle.tdl_plain.specs.declared.form.Form.{Form};
 ghost use Rattle.tdl_scen.specs.declared.entries.Scenario.{Scenario};
 ghost use Rattle.tdl_scen.specs.Scenario.{course_of};
+ghost use Rattle.tdl_scenario.specs.LawfulScenario.{AreTimes};
 ghost use Rattle.tdl_verify.specs.Runs.{IsAlive};
-ghost use Rattle.tdl_verify.specs.Texts.{bundle_run, bundle_text};
+ghost use Rattle.tdl_verify.specs.Texts.{bundle_names, bundle_run, bundle_text};
 ghost use Rattle.tdl_plain.specs.Runnable.{IsRunnable};
 
 /// A plain program whose task has the processor for its worst case from the start of each cycle:
@@ -28,12 +29,14 @@ pub fn plain_bundles()
         Realises (plain_bundle f) (program_of f) (one_node (program_of f)) (plain_schedule f) }
 {}
 
-/// The run of a plain program's bundle under a scenario that lists no execution times: it has no
-/// trap, and its printed lines are those of the logical rows.
+/// The run of a plain program's bundle under a scenario that lists lawful execution times, or none:
+/// it has no trap, and its printed lines are those of the logical rows.
 pub fn plain_runs()
-    ensures alive { (f : Form) → IsRunnable f → (s : Scenario) → s.times ≡ [] →
+    ensures alive { (f : Form) → IsRunnable f → (s : Scenario) →
+        All (AreTimes (bundle_names (plain_bundle f))) s.times →
         IsAlive (bundle_run (plain_bundle f) s).now }
-    ensures printed { (f : Form) → IsRunnable f → (s : Scenario) → s.times ≡ [] →
+    ensures printed { (f : Form) → IsRunnable f → (s : Scenario) →
+        All (AreTimes (bundle_names (plain_bundle f))) s.times →
         bundle_text (plain_bundle f) s
         ≡ logical_text (program_of f) (one_node (program_of f)) (course_of s.senses) s.horizon.0 }
 {}

@@ -3,7 +3,7 @@ use Rattle.std.specs.Prelude.{ℕ, List, [], ◌++◌, codes}
 use Rattle.std.specs.Fmt.{decimal}
 use Rattle.tdl_words.specs.Words.{Words, word_at}
 use Rattle.tdl_report.specs.declared.status.Status.{Status}
-use Rattle.tdl_report.specs.declared.status.Status.TheVariants.{Ok, Usage, LoadFailed, TooLong, BadToken, BadSyntax, BadProgram, WriteFailed, SaveFailed, BadBundle, NoMemory, BadForm}
+use Rattle.tdl_report.specs.declared.status.Status.TheVariants.{Ok, Usage, LoadFailed, TooLong, BadToken, BadSyntax, BadProgram, BadScenario, WriteFailed, SaveFailed, BadBundle, NoMemory, BadForm}
 
 -- the exit status
 abbrev pub code_of : Status → ℕ
@@ -14,6 +14,7 @@ code_of (TooLong w) = 3
 code_of (BadToken w line col) = 4
 code_of (BadSyntax w line col) = 5
 code_of (BadProgram w rule line col) = 6
+code_of (BadScenario rule line) = 10
 code_of (BadBundle rule at) = 11
 code_of WriteFailed = 13
 code_of (SaveFailed w) = 14
@@ -32,9 +33,9 @@ place_line text name line col = text ++ name ++ codes ":" ++ decimal line ++ cod
 abbrev pub program_line : (rule : ℕ) → List ℕ → (line col : ℕ) → List ℕ
 program_line rule name line col = place_line (codes "tdl: program C" ++ decimal rule ++ codes " at ") name line col
 
--- a line that names a rule of bundles and a place in the bytes
-abbrev pub bundle_line : (rule at : ℕ) → List ℕ
-bundle_line rule at = codes "tdl: bundle B" ++ decimal rule ++ codes " at " ++ decimal at ++ codes "\n"
+-- a line that names a rule, and a number after some words
+abbrev pub rule_line : List ℕ → (rule : ℕ) → List ℕ → (number : ℕ) → List ℕ
+rule_line text rule words number = text ++ decimal rule ++ words ++ decimal number ++ codes "\n"
 
 -- the line that a status puts on the error sink; Ok puts none
 abbrev pub error_line : Words → Status → List ℕ
@@ -47,6 +48,7 @@ error_line words (BadSyntax w line col) = place_line (codes "tdl: syntax at ") (
 error_line words (BadProgram w rule line col) = program_line rule (word_at words w) line col
 error_line words WriteFailed = codes "tdl: cannot write\n"
 error_line words (SaveFailed w) = named_line (codes "tdl: cannot save ") (word_at words w)
-error_line words (BadBundle rule at) = bundle_line rule at
+error_line words (BadScenario rule line) = rule_line (codes "tdl: scenario N") rule (codes " line ") line
+error_line words (BadBundle rule at) = rule_line (codes "tdl: bundle B") rule (codes " at ") at
 error_line words NoMemory = codes "tdl: no memory\n"
 error_line words (BadForm w) = named_line (codes "tdl: form ") (word_at words w)

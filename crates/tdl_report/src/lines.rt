@@ -1,6 +1,6 @@
 ghost use Rattle.std.specs.Fmt.{decimal};
 ghost use Rattle.std.specs.Prelude.{◌≡◌, ◌++◌, OnOk, IfOk};
-ghost use Rattle.tdl_report.specs.Statuses.{bundle_line, named_line, place_line, program_line};
+ghost use Rattle.tdl_report.specs.Statuses.{named_line, place_line, program_line, rule_line};
 
 use itoa::Buffer;
 use std::alloc::Global;
@@ -60,14 +60,20 @@ pub fn program_line(
     place_line(alloc, &text, name, line, col)
 }
 
-/// The line that names a rule of bundles and a place in the bytes.
-pub fn bundle_line(alloc: Global, rule: u8, at: u32) -> Result<Vec<u8>, NoMemory>
-    ensures { IfOk result (λ made. made.items ≡ bundle_line rule at) }
+/// The line that names a rule, and a number after some words.
+pub fn rule_line(
+    alloc: Global,
+    text: &[u8],
+    rule: u8,
+    words: &[u8],
+    number: u32,
+) -> Result<Vec<u8>, NoMemory>
+    ensures { IfOk result (λ made. made.items ≡ rule_line text.now rule words.now number) }
 {
-    let mut made = Vec::from_slice(alloc, b"tdl: bundle B")?;
+    let mut made = Vec::from_slice(alloc, text)?;
     put_number(&mut made, u32::from(rule))?;
-    made.extend_from_slice(b" at ")?;
-    put_number(&mut made, at)?;
+    made.extend_from_slice(words)?;
+    put_number(&mut made, number)?;
     made.extend_from_slice(b"\n")?;
     Ok(made)
 }

@@ -5,7 +5,7 @@ ghost use Rattle.tdl_report.specs.Calls.{sink_call};
 ghost use Rattle.tdl_report.specs.Reports.{IsSaid};
 
 use crate::Status;
-use crate::lines::{bundle_line, named_line, place_line, program_line};
+use crate::lines::{named_line, place_line, program_line, rule_line};
 use std::alloc::Global;
 use tdl_base::NoMemory;
 use tdl_io::Sink;
@@ -67,7 +67,10 @@ fn line_of(alloc: Global, words: &[String], status: Status) -> Result<Vec<u8>, N
             line,
             col,
         } => program_line(alloc, rule, word(words, at), line, col),
-        Status::BadBundle { rule, at } => bundle_line(alloc, rule, at),
+        Status::BadScenario { rule, line } => {
+            rule_line(alloc, b"tdl: scenario N", rule, b" line ", line)
+        }
+        Status::BadBundle { rule, at } => rule_line(alloc, b"tdl: bundle B", rule, b" at ", at),
         Status::BadForm { word: at } => named_line(alloc, b"tdl: form ", word(words, at)),
         _ => Err(NoMemory),
     }

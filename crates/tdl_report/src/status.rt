@@ -37,6 +37,12 @@ pub enum Status {
         line: u32,
         col: u32,
     },
+    /// A line of the scenario breaks rule N1 to N8; lines are counted from 1, and the number of
+    /// lines plus 1 is that of a fault without a line.
+    BadScenario {
+        rule: u8,
+        line: u32,
+    },
     /// The output could not be written.
     WriteFailed,
     /// A file could not be written.
@@ -82,6 +88,7 @@ impl Status {
                 line: _,
                 col: _,
             } => 6,
+            Status::BadScenario { rule: _, line: _ } => 10,
             Status::BadBundle { rule: _, at: _ } => 11,
             Status::WriteFailed => 13,
             Status::SaveFailed { word: _ } => 14,

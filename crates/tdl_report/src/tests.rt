@@ -50,6 +50,7 @@ fn faults_are_told_with_their_place(rt: HostRuntime) -> Result<(), Fail> {
         line: 1,
         col: 8,
     };
+    let scenario = Status::BadScenario { rule: 6, line: 1 };
     let program = Status::BadProgram {
         word: 0,
         rule: 12,
@@ -60,6 +61,7 @@ fn faults_are_told_with_their_place(rt: HostRuntime) -> Result<(), Fail> {
         (token, 4, "tdl: token at P.tdl:12:340\n"),
         (syntax, 5, "tdl: syntax at P.tdl:1:8\n"),
         (program, 6, "tdl: program C12 at P.tdl:1:8\n"),
+        (scenario, 10, "tdl: scenario N6 line 1\n"),
         (
             Status::BadBundle { rule: 2, at: 216 },
             11,

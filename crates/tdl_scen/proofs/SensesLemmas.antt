@@ -4,11 +4,8 @@ use mathlib.Core.Path.{fun_ext}
 use Rattle.std.proofs.lemmas.Bool.Decides.{nat_tests}
 use Rattle.std.proofs.lemmas.List.{get_or-drop, take_more, take-append-drop, length-drop, length-map}
 use Rattle.std.specs.List.{slice_index, slice_index_or}
-use Rattle.std.specs.List.Sorted.{IsStrictlyIncreasing}
 use Rattle.tdl_scen.specs.declared.entries.Sense.{Sense}
 use Rattle.tdl_scen.specs.Scenario.{last_from, course_of, is_sensed_by}
-use Rattle.tdl_scen.specs.PlainScenario.{instants_of}
-use Rattle.tdl_scen.proofs.PlainLemmas.{instant_at}
 use Rattle.tdl_scen.specs.Senses.{AreInOrder, is_other, with_latest, SensesView, IsUpTo, IsSensedAt}
 
 -- entries after others
@@ -117,29 +114,3 @@ up_to_later entries x y s le up = record { within = up.within; same = λ z m k a
 -- what stands where there is no entry
 abbrev pub no_entry : Sense
 no_entry = record { «module» = record { 0 = 0 }; sensor = 0; at = record { 0 = 0 }; value = pos 0 }
-
--- entries whose instants rise: one and a later one
-rises_to : (senses : List Sense) (d : Sense) (i g k : ℕ) → IsStrictlyIncreasing (instants_of senses) → k ≡ i + g →
-    k < length senses →
-    (slice_index_or senses i d).at.0 ≤ (slice_index_or senses k d).at.0
-rises_to senses d i zero k rising is within =
-    let same : i ≡ k = omega arith in
-    let here : (slice_index_or senses i d).at.0 ≤ (slice_index_or senses i d).at.0 = omega arith in
-    subst (λ (n : ℕ). (slice_index_or senses i d).at.0 ≤ (slice_index_or senses n d).at.0) same here
-rises_to senses d i (suc g) k rising is within =
-    let before : (slice_index_or senses i d).at.0 ≤ (slice_index_or senses (i + g) d).at.0 =
-    rises_to senses d i g (i + g) rising refl (omega arith) in
-    let inside : i + g + 1 < length (instants_of senses) = rw length-map (omega arith) in
-    let step : slice_index (instants_of senses) (i + g) < slice_index (instants_of senses) (i + g + 1) =
-    rising (i + g) inside in
-    let this : slice_index (instants_of senses) (i + g) ≡ (slice_index_or senses (i + g) d).at.0 =
-    instant_at senses (i + g) d (omega arith) in
-    let next : slice_index (instants_of senses) (i + g + 1) ≡ (slice_index_or senses (i + g + 1) d).at.0 =
-    instant_at senses (i + g + 1) d (omega arith) in
-    let there : i + g + 1 ≡ k = omega arith in
-    let after : (slice_index_or senses i d).at.0 ≤ (slice_index_or senses (i + g + 1) d).at.0 = omega arith in
-    subst (λ (n : ℕ). (slice_index_or senses i d).at.0 ≤ (slice_index_or senses n d).at.0) there after
-
--- entries whose instants rise are in order
-pub rising_in_order : (senses : List Sense) → IsStrictlyIncreasing (instants_of senses) → AreInOrder senses
-rising_in_order senses rising i j d le within = rises_to senses d i (j - i) j rising (omega arith) within

@@ -1,4 +1,3 @@
 pub mod Lines
 pub mod Scenario
-pub mod PlainScenario
 pub mod Senses

@@ -8,6 +8,9 @@ pub mod CountStands
 pub mod CountSteps
 pub mod Counted
 pub mod Costs
+pub mod Standing
 pub mod Lawfulness
 pub mod Extending
 pub mod CountsThrough
+pub mod Innermost
+pub mod Landing

@@ -8,37 +8,42 @@ use Rattle.tdl_stack.specs.declared.instr.Instr.{Instr}
 use Rattle.tdl_stack.specs.declared.instr.Instr.TheVariants.{Const, Load, Store, Un, Bin, Jz, Jmp, Rep}
 use Rattle.tdl_base.specs.declared.numbers.Place.TheVariants.{Sensor, Port, Cell}
 use Rattle.tdl_stack.specs.Lawful.{CodeShape, Suits, Exists, takes, height_after, height_at, span, Spans, Repeats, IsInBody}
-use Rattle.tdl_stack.specs.Judging.{Fits, SoundAt, Sound}
+use Rattle.tdl_stack.specs.Judging.{Fits, SoundAt, Along, Sound}
 use Rattle.tdl_stack.proofs.Places.{slice_get-within, slice_get-drop, fold-next, fold-no_more, fold-stretch}
-use Rattle.tdl_stack.proofs.Spans.{is_rep, Closes, spans_well-true, true-spans_well}
+use Rattle.tdl_stack.proofs.Spans.{is_rep, Closes, spans_well-true}
+
+-- each instruction is as it is asked at its place
+abbrev pub AtPlaces : (At : ℕ → Instr → List Instr → Type 0) → ℕ → List Instr → Type 0
+AtPlaces At height code = (p : ℕ) (i : Instr) → slice_get code p ≡ Some i →
+    At (fold height_after height (take p code)) i (drop (suc p) code)
 
 -- each instruction is sound at its place
 abbrev pub SoundPlaces : CodeShape → ℕ → List Instr → Type 0
-SoundPlaces shape height code = (p : ℕ) (i : Instr) → slice_get code p ≡ Some i →
-    SoundAt shape (fold height_after height (take p code)) i (drop (suc p) code)
+SoundPlaces shape = AtPlaces (SoundAt shape)
 
 -- how the code ends
 abbrev pub EndsAs : CodeShape → ℕ → Type 0
 EndsAs shape height = height ≡ (if shape.expression then 1 else 0)
 
--- of a sound code each instruction is sound
-pub sound-places : (shape : CodeShape) (h : ℕ) (code : List Instr) → Sound shape h code → SoundPlaces shape h code
-sound-places shape h [] s p i at = absurd (cc at)
-sound-places shape h (x ∷ code) s zero i at = subst (λ y. SoundAt shape h y code) (same_Some x i at) s.0
-sound-places shape h (x ∷ code) s (suc p) i at = sound-places shape (height_after h x) code s.1 p i at
+-- what is so along a code is so at each place
+pub along-places : (At : ℕ → Instr → List Instr → Type 0) (shape : CodeShape) (h : ℕ) (code : List Instr) →
+    Along At shape h code → AtPlaces At h code
+along-places At shape h [] s p i at = absurd (cc at)
+along-places At shape h (x ∷ code) s zero i at = subst (λ y. At h y code) (same_Some x i at) s.0
+along-places At shape h (x ∷ code) s (suc p) i at = along-places At shape (height_after h x) code s.1 p i at
 
--- and it ends as its shape asks
-pub sound-end : (shape : CodeShape) (h : ℕ) (code : List Instr) → Sound shape h code →
-    EndsAs shape (fold height_after h (take (length code) code))
-sound-end shape h [] s = s
-sound-end shape h (x ∷ code) s = sound-end shape (height_after h x) code s.1
+-- and the code ends as its shape asks
+pub along-end : (At : ℕ → Instr → List Instr → Type 0) (shape : CodeShape) (h : ℕ) (code : List Instr) →
+    Along At shape h code → EndsAs shape (fold height_after h (take (length code) code))
+along-end At shape h [] s = s
+along-end At shape h (x ∷ code) s = along-end At shape (height_after h x) code s.1
 
--- where both hold the code is sound
-pub places-sound : (shape : CodeShape) (h : ℕ) (code : List Instr) → SoundPlaces shape h code →
-    EndsAs shape (fold height_after h (take (length code) code)) → Sound shape h code
-places-sound shape h [] each end = end
-places-sound shape h (x ∷ code) each end =
-    (each 0 x refl, places-sound shape (height_after h x) code (λ p i at. each (suc p) i at) end)
+-- where both hold it is so along the code
+pub places-along : (At : ℕ → Instr → List Instr → Type 0) (shape : CodeShape) (h : ℕ) (code : List Instr) →
+    AtPlaces At h code → EndsAs shape (fold height_after h (take (length code) code)) → Along At shape h code
+places-along At shape h [] each end = end
+places-along At shape h (x ∷ code) each end =
+    (each 0 x refl, places-along At shape (height_after h x) code (λ p i at. each (suc p) i at) end)
 
 -- an instruction by itself
 pub fits-suits : (shape : CodeShape) (i : Instr) → Fits shape i → Suits shape.expression i
@@ -129,19 +134,20 @@ spanned shape code each p n s q k t later inside rep =
     length-take_le (suc n) [] l = absurd (omega (arith, l))
     length-take_le (suc n) (x ∷ xs) l = ap suc (length-take_le n xs (omega (arith, l)))
 
--- a height never passes what the stack has room for
-below_room : (shape : CodeShape) (code : List Instr) → SoundPlaces shape 0 code → (p : ℕ) →
+-- a height never passes what the stack has room for, where no instruction makes it pass
+pub below_room : (code : List Instr) →
+    ((p : ℕ) (i : Instr) → slice_get code p ≡ Some i → height_after (height_at code p) i ≤ STACK_NUMBERS) → (p : ℕ) →
     height_at code p ≤ STACK_NUMBERS
-below_room shape code each zero = omega arith
-below_room shape code each (suc p) = by_item (below_room shape code each p) (slice_get code p) refl
+below_room code each zero = omega arith
+below_room code each (suc p) = by_item (below_room code each p) (slice_get code p) refl
   where
     by_item : height_at code p ≤ STACK_NUMBERS → (o : Option Instr) → slice_get code p ≡ o →
         height_at code (suc p) ≤ STACK_NUMBERS
     by_item before None at = omega (arith, fold-no_more height_after 0 code p at)
-    by_item before (Some i) at = omega (arith, fold-next height_after 0 code p i at, (each p i at).room)
+    by_item before (Some i) at = omega (arith, fold-next height_after 0 code p i at, each p i at)
 
 -- of two places, either the first is before, or both are one, or the second is before
-order : (p q : ℕ) → (p < q) ⊎ ((p ≡ q) ⊎ (q < p))
+pub order : (p q : ℕ) → (p < q) ⊎ ((p ≡ q) ⊎ (q < p))
 order zero zero = inr (inl refl)
 order zero (suc q) = inl (omega arith)
 order (suc p) zero = inr (inr (omega arith))
@@ -181,12 +187,12 @@ goes_outside shape code each p n r times k s at body = by_order (order r p)
 -- a sound code keeps the rules
 pub sound-rules : (shape : CodeShape) (code : List Instr) → Sound shape 0 code → Rules code shape
 sound-rules shape code sound =
-    let each : SoundPlaces shape 0 code = sound-places shape 0 code sound in
+    let each : SoundPlaces shape 0 code = along-places (SoundAt shape) shape 0 code sound in
     record {
       suits = λ p i at. fits-suits shape i (each p i at).fits;
       exist = λ p i at. fits-exists shape i (each p i at).fits;
       supplied = λ p i at. (each p i at).supplied;
-      room = below_room shape code each;
+      room = below_room code (λ p i at. (each p i at).room);
       within = λ p n s. let c = (closes_at shape code each p n s).within in
           let l = slice_get-within code p s.0 s.1 in omega (arith, c, l, length-drop (suc p) code);
       nested = λ p n r times k s at body.
@@ -199,101 +205,5 @@ sound-rules shape code sound =
           rw e (fold-stretch height_after 0 code (suc p) n
           ∙ ap (λ h. fold height_after h (take n (drop (suc p) code))) c.empty ∙ c.clean.level);
       repeat = λ p times n at. (each p (Rep times n) at).fits.1;
-      end = sound-end shape 0 code sound;
+      end = along-end (SoundAt shape) shape 0 code sound;
     }
-
--- ---- from the rules to sound places
-
--- the rules say that what an instruction spans is clean
-closes_by : (shape : CodeShape) (code : List Instr) → Rules code shape → (p n : ℕ) (i : Instr) →
-    slice_get code p ≡ Some i → span i ≡ Some n → Closes (is_rep i) n (height_after (height_at code p) i) (drop (suc p) code)
-closes_by shape code rules p n i at is =
-    let s : Spans code p n = (i, at, is) in
-    let e : p + 1 ≡ suc p = omega arith in
-    let f : p + n + 1 ≡ suc p + n = omega arith in
-    let empty : height_at code (suc p) ≡ 0 = ap (height_at code) (sym e) ∙ rules.empty_before p n s in
-    let l = rules.within p n s in
-    record {
-      empty = sym (fold-next height_after 0 code p i at) ∙ empty;
-      within = omega (arith, l, length-drop (suc p) code);
-      clean = record {
-        within = λ j t there k spans rep. ends_in j t there k spans rep l;
-        level = ap (λ h. fold height_after h (take n (drop (suc p) code))) (sym empty)
-            ∙ sym (fold-stretch height_after 0 code (suc p) n) ∙ ap (height_at code) (sym f) ∙ rules.empty_after p n s;
-      };
-    }
-  where
-    take_within : (xs : List Instr) (m j : ℕ) (t : Instr) → slice_get (take m xs) j ≡ Some t →
-        (j < m) × (slice_get xs j ≡ Some t)
-    take_within xs zero j t e = absurd (cc e)
-    take_within [] (suc m) j t e = absurd (cc e)
-    take_within (x ∷ xs) (suc m) zero t e = (omega arith, e)
-    take_within (x ∷ xs) (suc m) (suc j) t e = let r = take_within xs m j t e in (omega (arith, r.0), r.1)
-
-    length-take_le : (m : ℕ) (xs : List Instr) → m ≤ length xs → length (take m xs) ≡ m
-    length-take_le zero xs l = refl
-    length-take_le (suc m) [] l = absurd (omega (arith, l))
-    length-take_le (suc m) (x ∷ xs) l = ap suc (length-take_le m xs (omega (arith, l)))
-
-    not_into : (q k : ℕ) (t : Instr) → slice_get code q ≡ Some t → span t ≡ Some k → is_rep t ≡ true →
-        p < q → q ≤ p + n → q + k ≤ p + n
-    not_into q k (Rep times m) there spans rep later inside = by_test (order (p + n) (q + k))
-      where
-        by_test : (p + n < q + k) ⊎ ((p + n ≡ q + k) ⊎ (q + k < p + n)) → q + k ≤ p + n
-        by_test (inl l) =
-            let at_q : Repeats code q times k =
-            there ∙ ap (λ x. Some (Rep times x)) (same_Some m k spans) in
-            let b = rules.outside p n q times k (i, at, is) at_q (omega arith, omega arith) in
-            let c : q < p = b.0 in absurd (omega arith)
-        by_test (inr (inl e)) = omega arith
-        by_test (inr (inr l)) = omega arith
-    not_into q k (Const v) there spans rep later inside = absurd (cc rep)
-    not_into q k (Load place) there spans rep later inside = absurd (cc rep)
-    not_into q k (Store c) there spans rep later inside = absurd (cc rep)
-    not_into q k (Un op) there spans rep later inside = absurd (cc rep)
-    not_into q k (Bin op) there spans rep later inside = absurd (cc rep)
-    not_into q k (Jz m) there spans rep later inside = absurd (cc rep)
-    not_into q k (Jmp m) there spans rep later inside = absurd (cc rep)
-
-    in_body : (q k : ℕ) (o : Instr) → slice_get code p ≡ Some o → span o ≡ Some n → is_rep o ≡ true → Spans code q k →
-        p < q → q ≤ p + n → q + k ≤ p + n
-    in_body q k (Rep times m) here spans rep s later inside =
-        rules.nested q k p times n s (here ∙ ap (λ x. Some (Rep times x)) (same_Some m n spans)) (later, inside)
-    in_body q k (Const v) here spans rep s later inside = absurd (cc rep)
-    in_body q k (Load place) here spans rep s later inside = absurd (cc rep)
-    in_body q k (Store c) here spans rep s later inside = absurd (cc rep)
-    in_body q k (Un op) here spans rep s later inside = absurd (cc rep)
-    in_body q k (Bin op) here spans rep s later inside = absurd (cc rep)
-    in_body q k (Jz m) here spans rep s later inside = absurd (cc rep)
-    in_body q k (Jmp m) here spans rep s later inside = absurd (cc rep)
-
-    either : (b : Bool) → is_rep i ≡ b → (q k : ℕ) (t : Instr) → slice_get code q ≡ Some t → span t ≡ Some k →
-        (b || is_rep t) ≡ true → p < q → q ≤ p + n → q + k ≤ p + n
-    either true r q k t there spans rep later inside = in_body q k i at is r (t, there, spans) later inside
-    either false r q k t there spans rep later inside = not_into q k t there spans rep later inside
-
-    ends_in : (j : ℕ) (t : Instr) → slice_get (take n (drop (suc p) code)) j ≡ Some t → (k : ℕ) → span t ≡ Some k →
-        (is_rep i || is_rep t) ≡ true → p + n < length code → k ≤ length (take n (drop (suc p) code)) - suc j
-    ends_in j t there k spans rep l =
-        let w = take_within (drop (suc p) code) n j t there in
-        let inside : j < n = w.0 in
-        let len : length (take n (drop (suc p) code)) ≡ n =
-        length-take_le n (drop (suc p) code) (omega (arith, l, length-drop (suc p) code)) in
-        let ends : suc p + j + k ≤ p + n =
-        either (is_rep i) refl (suc p + j) k t (sym (slice_get-drop code (suc p) j) ∙ w.1) spans rep (omega arith)
-        (omega arith) in
-        omega (arith, len, ends)
-
--- a code that keeps the rules is sound
-pub rules-sound : (shape : CodeShape) (code : List Instr) → Rules code shape → Sound shape 0 code
-rules-sound shape code rules =
-    places-sound shape 0 code
-    (λ p i at. record {
-      fits = of_fits shape i (rules.suits p i at) (rules.exist p i at)
-          (λ times n e. rules.repeat p times n (at ∙ ap Some e));
-      supplied = rules.supplied p i at;
-      room = let l = rules.room (suc p) in omega (arith, l, fold-next height_after 0 code p i at);
-      spans = true-spans_well i (height_after (height_at code p) i) (drop (suc p) code)
-          (λ n is. closes_by shape code rules p n i at is);
-    })
-    rules.end

@@ -6,7 +6,7 @@ use Rattle.tdl_stack.specs.declared.instr.Instr.{Instr}
 use Rattle.tdl_stack.specs.declared.instr.Instr.TheVariants.{Const, Load, Store, Un, Bin, Jz, Jmp, Rep}
 use Rattle.tdl_stack.specs.Lawful.{height_after, span}
 use Rattle.tdl_stack.specs.Judging.{ends, clean, closes, spans_well}
-use Rattle.std.proofs.Common.{le-leb, leb-true, eqb-true, eq-eqb}
+use Rattle.std.proofs.Common.{leb-true, eqb-true}
 
 -- whether an instruction is a `rep`
 abbrev pub is_rep : Instr → Bool
@@ -39,24 +39,6 @@ ends-true true left (Jmp n) e k is t = omega (arith, same_Some n k is, leb-true 
 ends-true false left (Jmp n) e k is t = absurd (cc t)
 ends-true b left (Rep times n) e k is t = omega (arith, same_Some n k is, leb-true n left e)
 
--- of two tests the second is passed
-or-true : (b : Bool) → (b || true) ≡ true
-or-true true = refl
-or-true false = refl
-
--- what it says passes the test
-pub true-ends : (in_body : Bool) (left : ℕ) (i : Instr) → Ends in_body left i → ends in_body left i ≡ true
-true-ends b left (Const v) h = refl
-true-ends b left (Load place) h = refl
-true-ends b left (Store c) h = refl
-true-ends b left (Un op) h = refl
-true-ends b left (Bin op) h = refl
-true-ends true left (Jz n) h = le-leb n left (h n refl refl)
-true-ends false left (Jz n) h = refl
-true-ends true left (Jmp n) h = le-leb n left (h n refl refl)
-true-ends false left (Jmp n) h = refl
-true-ends b left (Rep times n) h = le-leb n left (h n refl (or-true b))
-
 -- what is spanned is clean: each instruction ends within it, and the stack is empty after it
 pub record IsClean (in_body : Bool) (height : ℕ) (code : List Instr) : Type 0 where
   pub within : (j : ℕ) (i : Instr) → slice_get code j ≡ Some i → Ends in_body (length code - suc j) i
@@ -78,17 +60,6 @@ clean-true b h (x ∷ code) e =
         (ap (λ y. b || is_rep y) (same_Some x i at) ∙ t) in omega arith
     each first more (suc j) i at k is t = let l : k ≤ length code - suc j = more j i at k is t in omega arith
 
--- what is clean passes the test
-pub true-clean : (b : Bool) (h : ℕ) (code : List Instr) → IsClean b h code → clean b h code ≡ true
-true-clean b h [] c = eq-eqb h 0 c.level
-true-clean b h (x ∷ code) c =
-    let first : Ends b (length code) x = λ k is t. let l = c.within 0 x refl k is t in omega (arith, l) in
-    let rest : IsClean b (height_after h x) code = record {
-      within = λ j i at k is t. let l = c.within (suc j) i at k is t in omega (arith, l);
-      level = c.level;
-    } in
-    of_both _ _ (true-ends b (length code) x first) (true-clean b (height_after h x) code rest)
-
 -- the next n instructions are there, can be spanned, and begin with an empty stack
 pub record Closes (in_body : Bool) (n height : ℕ) (code : List Instr) : Type 0 where
   pub empty : height ≡ 0
@@ -101,12 +72,6 @@ closes-true b n h code e =
     let p = both (nat_eq h 0) _ e in
     let q = both (nat_le n (length code)) _ p.1 in
     record { empty = eqb-true h 0 p.0; within = leb-true n (length code) q.0; clean = clean-true b 0 (take n code) q.1 }
-
--- what closes passes the test
-pub true-closes : (b : Bool) (n h : ℕ) (code : List Instr) → Closes b n h code → closes b n h code ≡ true
-true-closes b n h code c =
-    of_both _ _ (eq-eqb h 0 c.empty)
-    (of_both _ _ (le-leb n (length code) c.within) (true-clean b 0 (take n code) c.clean))
 
 -- what an instruction spans
 pub spans_well-true : (i : Instr) (n h : ℕ) (code : List Instr) → spans_well i h code ≡ true → span i ≡ Some n →
@@ -122,15 +87,3 @@ spans_well-true (Jmp k) n h code e is =
     closes-true false n h code (subst (λ m. closes false m h code ≡ true) (same_Some k n is) e)
 spans_well-true (Rep times k) n h code e is =
     closes-true true n h code (subst (λ m. closes true m h code ≡ true) (same_Some k n is) e)
-
--- where what it spans closes, the test is passed
-pub true-spans_well : (i : Instr) (h : ℕ) (code : List Instr) →
-    ((n : ℕ) → span i ≡ Some n → Closes (is_rep i) n h code) → spans_well i h code ≡ true
-true-spans_well (Const v) h code c = refl
-true-spans_well (Load place) h code c = refl
-true-spans_well (Store k) h code c = refl
-true-spans_well (Un op) h code c = refl
-true-spans_well (Bin op) h code c = refl
-true-spans_well (Jz n) h code c = true-closes false n h code (c n refl)
-true-spans_well (Jmp n) h code c = true-closes false n h code (c n refl)
-true-spans_well (Rep times n) h code c = true-closes true n h code (c n refl)

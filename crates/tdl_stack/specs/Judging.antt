@@ -1,4 +1,4 @@
--- How a code is judged, one instruction after the other.
+-- A way to show that a code is lawful: each instruction is judged by itself, with the text that it spans.
 use Rattle.std.specs.Prelude.{◌≡◌, ℕ, ◌≤◌, nat_eq, nat_le, Bool, true, false, not, ◌&&◌, ◌||◌, if◌then◌else◌, List, [], ◌∷◌, length, take}
 use Rattle.tdl_base.specs.declared.limits.TheConstants.{REPEAT}
 use Rattle.tdl_stack.specs.declared.limits.TheConstants.{STACK_NUMBERS}
@@ -41,7 +41,11 @@ pub record SoundAt (shape : CodeShape) (height : ℕ) (i : Instr) (code : List I
   pub room : height_after height i ≤ STACK_NUMBERS
   pub spans : spans_well i (height_after height i) code ≡ true
 
--- every instruction of a code, and how it ends
+-- every instruction of a code is as it is asked where it stands, and the code ends as its shape asks
+abbrev pub Along : (At : (height : ℕ) → Instr → List Instr → Type 0) → CodeShape → (height : ℕ) → List Instr → Type 0
+Along At shape height [] = height ≡ (if shape.expression then 1 else 0)
+Along At shape height (i ∷ code) = At height i code × Along At shape (height_after height i) code
+
+-- every instruction is sound
 abbrev pub Sound : CodeShape → (height : ℕ) → List Instr → Type 0
-Sound shape height [] = height ≡ (if shape.expression then 1 else 0)
-Sound shape height (i ∷ code) = SoundAt shape height i code × Sound shape (height_after height i) code
+Sound shape = Along (SoundAt shape) shape

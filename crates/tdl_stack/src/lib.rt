@@ -5,11 +5,13 @@ mod bodies;
 mod check;
 mod count;
 mod instr;
+mod lands;
 pub mod laws;
 pub mod limits;
 mod list;
 mod shape;
-mod sound;
+mod stand;
+mod table;
 mod write;
 
 pub use check::check_code;

@@ -115,3 +115,53 @@ fn put_key(into: &mut Vec<u8>, key: PortKey) -> Result<(), NoMemory>
     put_two(into, b"port ", u64::from(module.0), u64::from(task.0))?;
     put_number(into, b" ", u64::from(output))
 }
+
+#[cfg(test)]
+mod tests {
+    use super::*;
+    use std::test::Fail;
+    use tdl_base::{BinOp, ModuleId, TaskId, UnOp};
+
+    const KEY: PortKey = PortKey {
+        module: ModuleId(1),
+        task: TaskId(2),
+        output: 3,
+    };
+
+    #[test]
+    fn texts(rt: HostRuntime) -> Result<(), Fail> {
+        let choice = [
+            Instr::Load(Place::Cell(0)),
+            Instr::Const(-5),
+            Instr::Bin(BinOp::Greater),
+            Instr::Jz(3),
+            Instr::Const(1),
+            Instr::Store(1),
+            Instr::Jmp(2),
+            Instr::Un(UnOp::Not),
+            Instr::Store(1),
+        ];
+        let rows = [
+            ([].as_slice(), b"= none".as_slice()),
+            (
+                choice.as_slice(),
+                b"= cell 0; const -5; bin 7; jz 3; const 1; store 1; jmp 2; un 1; store 1".as_slice(),
+            ),
+            (
+                [
+                    Instr::Rep(3, 4),
+                    Instr::Load(Place::Sensor(6)),
+                    Instr::Load(Place::Port(KEY)),
+                ]
+                .as_slice(),
+                b"= rep 3 4; sensor 6; port 1 2 3".as_slice(),
+            ),
+        ];
+        for (code, text) in rows {
+            let mut into = Vec::from_slice(rt.alloc(), b"= ")?;
+            list_code(code, &mut into)?;
+            assert_eq!(rt; into.as_slice(), text, "{code:?}");
+        }
+        Ok(())
+    }
+}

@@ -1,7 +1,7 @@
-use crate::{Instr, Shape, check_code, list_code};
+use crate::{Instr, Shape, check_code};
 use std::alloc::{AllocError, Global};
 use std::test::Fail;
-use tdl_base::{BinOp, ModuleId, Place, PortKey, TaskId, UnOp};
+use tdl_base::{BinOp, ModuleId, NoMemory, Place, PortKey, TaskId, UnOp};
 
 const KEY: PortKey = PortKey {
     module: ModuleId(1),
@@ -22,7 +22,7 @@ const SET: Instr = Instr::Store(1);
 const STAY: Instr = Instr::Jmp(0);
 
 // Two cells, one sensor and one output.
-fn is_lawful(code: &[Instr], expression: bool) -> bool {
+fn is_lawful(alloc: Global, code: &[Instr], expression: bool) -> Result<bool, NoMemory> {
     let keys = [KEY];
     let shape = Shape {
         cells: 2,
@@ -30,7 +30,7 @@ fn is_lawful(code: &[Instr], expression: bool) -> bool {
         keys: &keys,
         expression,
     };
-    check_code(code, &shape)
+    check_code(alloc, code, &shape)
 }
 
 #[test]
@@ -64,7 +64,7 @@ fn stacks_of_bodies(rt: HostRuntime) -> Result<(), Fail> {
         ),
     ];
     for (code, want, what) in rows {
-        assert_eq!(rt; is_lawful(code, false), want, "{what}");
+        assert_eq!(rt; is_lawful(rt.alloc(), code, false)?, want, "{what}");
     }
     Ok(())
 }
@@ -111,7 +111,7 @@ fn skips_of_bodies(rt: HostRuntime) -> Result<(), Fail> {
         ),
     ];
     for (code, want, what) in rows {
-        assert_eq!(rt; is_lawful(code, false), want, "{what}");
+        assert_eq!(rt; is_lawful(rt.alloc(), code, false)?, want, "{what}");
     }
     Ok(())
 }
@@ -146,7 +146,7 @@ fn repetitions_of_bodies(rt: HostRuntime) -> Result<(), Fail> {
         ([Instr::Rep(1001, 0)].as_slice(), false, "1001 turns"),
     ];
     for (code, want, what) in rows {
-        assert_eq!(rt; is_lawful(code, false), want, "{what}");
+        assert_eq!(rt; is_lawful(rt.alloc(), code, false)?, want, "{what}");
     }
     Ok(())
 }
@@ -180,7 +180,7 @@ fn expressions(rt: HostRuntime) -> Result<(), Fail> {
         ([Instr::Rep(1, 0), ONE].as_slice(), false, "a repetition"),
     ];
     for (code, want, what) in rows {
-        assert_eq!(rt; is_lawful(code, true), want, "{what}");
+        assert_eq!(rt; is_lawful(rt.alloc(), code, true)?, want, "{what}");
     }
     Ok(())
 }
@@ -232,44 +232,57 @@ fn limits(rt: HostRuntime) -> Result<(), Fail> {
         (costly(rt.alloc(), 999)?, false, "a cost of 60,000,001"),
     ];
     for (code, want, what) in &rows {
-        assert_eq!(rt; is_lawful(code.as_slice(), false), *want, "{what}");
+        assert_eq!(rt;
+            is_lawful(rt.alloc(), code.as_slice(), false)?,
+            *want,
+            "{what}"
+        );
     }
     Ok(())
 }
 
+// So many skips, each over so many instructions; then others, and skips to the next instruction.
+fn crossing(
+    alloc: Global,
+    count: usize,
+    over: u32,
+    rest: &[Instr],
+) -> Result<Vec<Instr>, AllocError> {
+    let mut code = Vec::new(alloc);
+    push_all(&mut code, count, Instr::Jmp(over))?;
+    for i in rest {
+        code.push(*i)?;
+    }
+    push_all(&mut code, over as usize, STAY)?;
+    Ok(code)
+}
+
 #[test]
-fn texts(rt: HostRuntime) -> Result<(), Fail> {
-    let choice = [
-        Instr::Load(Place::Cell(0)),
-        Instr::Const(-5),
-        Instr::Bin(BinOp::Greater),
-        Instr::Jz(3),
-        Instr::Const(1),
-        SET,
-        Instr::Jmp(2),
-        Instr::Un(UnOp::Not),
-        SET,
-    ];
+fn skips_that_cross(rt: HostRuntime) -> Result<(), Fail> {
     let rows = [
-        ([].as_slice(), b"= none".as_slice()),
+        (crossing(rt.alloc(), 100, 100, &[])?, true, "skips to skips"),
         (
-            choice.as_slice(),
-            b"= cell 0; const -5; bin 7; jz 3; const 1; store 1; jmp 2; un 1; store 1".as_slice(),
+            crossing(rt.alloc(), 100, 50, &[Instr::Rep(2, 0)])?,
+            true,
+            "skips over an empty body",
         ),
         (
-            [
-                Instr::Rep(3, 4),
-                Instr::Load(Place::Sensor(6)),
-                Instr::Load(Place::Port(KEY)),
-            ]
-            .as_slice(),
-            b"= rep 3 4; sensor 6; port 1 2 3".as_slice(),
+            crossing(rt.alloc(), 100, 50, &[Instr::Rep(2, 1)])?,
+            false,
+            "a skip into a body",
+        ),
+        (
+            crossing(rt.alloc(), 100, 50, &[ONE, SET])?,
+            false,
+            "a skip to a store",
         ),
     ];
-    for (code, text) in rows {
-        let mut into = Vec::from_slice(rt.alloc(), b"= ")?;
-        list_code(code, &mut into)?;
-        assert_eq!(rt; into.as_slice(), text, "{code:?}");
+    for (code, want, what) in &rows {
+        assert_eq!(rt;
+            is_lawful(rt.alloc(), code.as_slice(), false)?,
+            *want,
+            "{what}"
+        );
     }
     Ok(())
 }

@@ -15,7 +15,9 @@ use Rattle.tdl_verify.specs.Texts.{bundle_names, bundle_run, bundle_text}
 use Rattle.tdl_verify.specs.Runs.{IsAlive}
 use Rattle.tdl_gen.specs.Realises.{Realises}
 use Rattle.tdl_make.specs.PlainBundle.{plain_bundle, IsPlainBundle}
-use Rattle.tdl_make.proofs.PlainText.{plain_alive, plain_text}
+use Rattle.tdl_make.proofs.PlainText.{plain_alive, plain_names, plain_text}
+use Rattle.tdl_scenario.specs.LawfulScenario.{IsLawful}
+use Rattle.tdl_scenario.proofs.Lawful as scenarios
 use Rattle.tdl_make.proofs.PlainRealises.{made, realises}
 use Rattle.tdl_words.specs.declared.words.Call.TheVariants.{Compile, Run, Exec}
 use Rattle.tdl_words.specs.Words.{Words}
@@ -25,6 +27,11 @@ use Rattle.tdl_top.specs.Inputs.{HaveBundle, IsScenarioOf}
 use Rattle.tdl_top.specs.Answers.{IsDone, Leaves}
 use Rattle.tdl_top.specs.Headline.{SavesProgram, Compiles, Runs, Executes}
 use Rattle.tdl_top.proofs.InputsSay.{runnable}
+
+-- a scenario of names is lawful for them
+pub lawful_for : (names : Names) (bytes : List ℕ) (s : Scenario) → IsScenarioOf names bytes s → IsLawful names s
+lawful_for names bytes s says =
+    subst (IsLawful names) (sym says.said) (scenarios.lawful names [] bytes says.lawful)
 
 -- ---- the bundle of sources
 
@@ -53,10 +60,12 @@ module _ (bundle : Bundle) (trees : List Tree) (say : SayBundle trees bundle) wh
   names_are = ap bundle_names is_plain ∙ sym (ap (λ (p : Program). names_of p (placement_of p)) say.say.says.is)
 
   -- the text of its run is that of the program's logical rows
-  text_is : (s : Scenario) → s.times ≡ [] →
+  text_is : (s : Scenario) → IsLawful (bundle_names bundle) s →
       bundle_text bundle s ≡ logical_text say.program (placement_of say.program) (course_of s.senses) s.horizon.0
-  text_is s none =
-      ap (λ (b : Bundle). bundle_text b s) is_plain ∙ plain_text form (runnable form lawful) s none
+  text_is s fits =
+      let own : IsLawful (plain_names form) s =
+      subst (λ (b : Bundle). IsLawful (bundle_names b) s) is_plain fits in
+      ap (λ (b : Bundle). bundle_text b s) is_plain ∙ plain_text form (runnable form lawful) s own.times
       ∙ sym (ap (λ (p : Program). logical_text p (placement_of p) (course_of s.senses) s.horizon.0) say.say.says.is)
 
 -- ---- the calls
@@ -102,18 +111,22 @@ runs files words out n w v done = record {
   read = record {
     bytes = done.prints.read.bytes;
     read = done.prints.read.read;
-    plain = subst (λ (names : Names). IsScenarioOf names done.prints.read.bytes done.prints.scenario)
-        (names_are done.bundle done.has.trees done.has.say) done.prints.read.plain;
+    says = subst (λ (names : Names). IsScenarioOf names done.prints.read.bytes done.prints.scenario)
+        (names_are done.bundle done.has.trees done.has.say) done.prints.read.says;
   };
   printed = done.prints.printed;
-  logical = text_is done.bundle done.has.trees done.has.say done.prints.scenario done.prints.read.plain.times;
+  logical = text_is done.bundle done.has.trees done.has.say done.prints.scenario
+      (lawful_for (bundle_names done.bundle) done.prints.read.bytes done.prints.scenario done.prints.read.says);
 }
 
 -- the run of a plain bundle has no trap
-pub bundle_alive : (b : Bundle) (s : Scenario) → IsPlainBundle b → s.times ≡ [] → IsAlive (bundle_run b s).now
-bundle_alive b s plain e =
+pub bundle_alive : (b : Bundle) (s : Scenario) → IsPlainBundle b → IsLawful (bundle_names b) s →
+    IsAlive (bundle_run b s).now
+bundle_alive b s plain fits =
+    let own : IsLawful (plain_names plain.form) s =
+    subst (λ (c : Bundle). IsLawful (bundle_names c) s) plain.is fits in
     subst (λ (c : Bundle). IsAlive (bundle_run c s).now) (sym plain.is)
-    (plain_alive plain.form (runnable plain.form plain.lawful) s e)
+    (plain_alive plain.form (runnable plain.form plain.lawful) s own.times)
 
 pub executes : (files : FilesCall) (words : Words) (out : SinkCall) (v : ℕ) → IsDone files words (Exec v) out →
     Executes files words out v × IsUnchanged files
@@ -123,7 +136,8 @@ executes files words out v done = (
     scenario = done.prints.scenario;
     bundle_read = done.has;
     read = done.prints.read;
-    alive = bundle_alive done.bundle done.prints.scenario done.has.spelling.plain done.prints.read.plain.times;
+    alive = bundle_alive done.bundle done.prints.scenario done.has.spelling.plain
+        (lawful_for (bundle_names done.bundle) done.prints.read.bytes done.prints.scenario done.prints.read.says);
     printed = done.prints.printed;
   },
   done.leaves,

@@ -1,9 +1,12 @@
 -- Sources that are read one after the other.
-use Rattle.std.proofs.Common.{◌≡◌, ℕ, zero, suc, List, [], ◌∷◌, ◌++◌, length, ap, refl, subst, sym, inl, inr, append_assoc, append-nil, Option}
+use Rattle.std.proofs.Common.{◌≡◌, ℕ, zero, suc, List, [], ◌∷◌, ◌++◌, All, length, ap, refl, subst, sym, inl, inr, append_assoc, append-nil, Option}
+use Rattle.std.proofs.lemmas.List.Elements.{All-nil, All-cons}
 use Rattle.tdl_base.specs.declared.limits.TheConstants.{ALL_SOURCES_BYTES}
 use Rattle.tdl_io.specs.Outside.{Held}
 use Rattle.tdl_io.specs.Told.{FilesTold}
 use Rattle.tdl_tree.specs.declared.declarations.Tree.{Tree}
+use Rattle.tdl_size.specs.Sized.{IsSized}
+use Rattle.tdl_size.proofs.Identifiers.{tree_sized}
 use Rattle.tdl_words.specs.Words.{Words, word_at, words_from}
 use Rattle.tdl_report.specs.declared.status.Status.{Status}
 use Rattle.tdl_report.specs.declared.status.Status.TheVariants.{LoadFailed, TooLong, BadToken, BadSyntax, NoMemory}
@@ -78,6 +81,22 @@ trees_count holds words k (suc n) left (tree ∷ trees) have =
 pub read_count : (holds : Option Held) (words : Words) (n : ℕ) (trees : List Tree) → AreRead holds words n trees →
     length trees ≡ n
 read_count holds words n trees read = trees_count holds words 1 n ALL_SOURCES_BYTES trees read
+
+-- each tree is within the limits of the grammar
+trees_sized : (holds : Option Held) (words : Words) (k n left : ℕ) (trees : List Tree) →
+    HaveTrees holds (words_from words k n) left trees → All IsSized trees
+trees_sized holds words k zero left [] have = All-nil IsSized
+trees_sized holds words k zero left (tree ∷ trees) have = absurd have
+trees_sized holds words k (suc n) left [] have = absurd have
+trees_sized holds words k (suc n) left (tree ∷ trees) have =
+    let spelled = have.1.spelled in
+    All-cons IsSized tree trees (tree_sized have.1.bytes spelled.tokens tree spelled.scanned spelled.spelled)
+    (trees_sized holds words (suc k) n have.0 trees have.2)
+
+-- so are all trees that were read
+pub read_sized : (holds : Option Held) (words : Words) (n : ℕ) (trees : List Tree) → AreRead holds words n trees →
+    All IsSized trees
+read_sized holds words n trees read = trees_sized holds words 1 n ALL_SOURCES_BYTES trees read
 
 -- ---- one of them is refused
 

@@ -22,7 +22,7 @@ use Rattle.tdl_make.specs.PlainBundle.{plain_bundle, IsPlainBundle}
 use Rattle.tdl_make.proofs.Spelled.{plain_spellable}
 use Rattle.tdl_make.proofs.PlainRealises.{made}
 use Rattle.tdl_report.specs.declared.status.Status.{Status}
-use Rattle.tdl_report.specs.declared.status.Status.TheVariants.{Ok, LoadFailed, TooLong, BadToken, BadSyntax, BadProgram, SaveFailed, BadBundle, NoMemory, BadForm}
+use Rattle.tdl_report.specs.declared.status.Status.TheVariants.{Ok, LoadFailed, TooLong, BadToken, BadSyntax, BadProgram, SaveFailed, BadScenario, BadBundle, NoMemory, BadForm}
 use Rattle.tdl_words.specs.declared.words.Call.{Call}
 use Rattle.tdl_words.specs.Words.{Words, word_at, source_count}
 use Rattle.tdl_report.specs.Calls.{FilesCall, OnlyLoads}
@@ -53,11 +53,17 @@ single (y ∷ []) x one is = ap (λ (z : Tree). z ∷ []) (sym is)
 single (y ∷ z ∷ xs) x one is = absurd (omega (arith, one))
 
 -- a plain tree that breaks no rule gives its bundle
-pub plain_says : (f : Form) (trees : List Tree) (tree : Tree) → faults trees ≡ [] → length trees ≡ 1 → tree ≡ get_or trees 0 tree →
+pub plain_says : (f : Form) (trees : List Tree) (tree : Tree) → faults trees ≡ [] → length trees ≡ 1 →
+    tree ≡ get_or trees 0 tree →
     IsPlainTree f tree → SayBundle trees (plain_bundle f)
 plain_says f trees tree obey one is plain = record {
   program = program_of f;
-  say = record { obey = obey; tree = tree; only = single trees tree one is; says = record { form = f; plain = plain; is = refl } };
+  say = record {
+    obey = obey;
+    tree = tree;
+    only = single trees tree one is;
+    says = record { form = f; plain = plain; is = refl };
+  };
   made = sym (made f (runnable f plain.lawful));
 }
 
@@ -154,6 +160,8 @@ says_earlier a b c words call (BadSyntax w line col) loads says =
     subst (λ (h : Option Held). IsRefused h words call (BadSyntax w line col)) loads.held says
 says_earlier a b c words call (BadProgram w rule line col) loads says =
     subst (λ (h : Option Held). IsRefused h words call (BadProgram w rule line col)) loads.held says
+says_earlier a b c words call (BadScenario rule line) loads says =
+    subst (λ (h : Option Held). IsRefused h words call (BadScenario rule line)) loads.held says
 says_earlier a b c words call (BadBundle rule at) loads says =
     subst (λ (h : Option Held). IsRefused h words call (BadBundle rule at)) loads.held says
 says_earlier a b c words call (BadForm w) loads says =

@@ -1,18 +1,22 @@
 -- One answer at most is due, and an answer that is no fault is.
-use Rattle.std.proofs.Common.{◌≡◌, ℕ, List, refl, ap, sym, ◌∙◌, subst, inl, inr, Option, Some, None}
+use Rattle.std.proofs.Common.{◌≡◌, ℕ, List, [], refl, ap, sym, ◌∙◌, subst, inl, inr, arith, Option, Some, None}
 use Rattle.std.specs.Prelude.{◌⊎◌}
 use Rattle.tdl_base.specs.declared.limits.TheConstants.{SCENARIO_BYTES}
 use Rattle.tdl_io.specs.Outside.{Held, IsLonger}
 use Rattle.tdl_image.specs.declared.bundle.Bundle.{Bundle}
+use Rattle.tdl_lines.specs.declared.fault.Fault.{Fault}
+use Rattle.tdl_lines.specs.Faults.{IsFirst}
+use Rattle.tdl_lines.proofs.FirstFault.{first_is_one}
 use Rattle.tdl_scen.specs.declared.entries.Scenario.{Scenario}
+use Rattle.tdl_scenario.specs.Rules.{scenario_faults}
 use Rattle.tdl_verify.specs.Texts.{bundle_names}
 use Rattle.tdl_words.specs.declared.words.Call.{Call}
 use Rattle.tdl_words.specs.Words.{Words, word_at, source_count, scenario_word}
 use Rattle.tdl_report.specs.declared.status.Status.{Status}
-use Rattle.tdl_report.specs.declared.status.Status.TheVariants.{Ok, Usage, TooLong, BadToken, BadSyntax, BadProgram, BadBundle, BadForm}
+use Rattle.tdl_report.specs.declared.status.Status.TheVariants.{Ok, Usage, TooLong, BadToken, BadSyntax, BadProgram, BadScenario, BadBundle, BadForm}
 use Rattle.tdl_report.specs.Calls.{FilesCall, SinkCall}
 use Rattle.tdl_top.specs.Sources.{IsRead}
-use Rattle.tdl_top.specs.Inputs.{Gives, IsScenarioOf, HasBundle, HasScenario}
+use Rattle.tdl_top.specs.Inputs.{Gives, HasBundle, HasScenario}
 use Rattle.tdl_top.specs.Refused.{FirstRefused, ScenarioRefused, IsRefused}
 use Rattle.tdl_top.specs.Answers.{HasAsked, Prints, AnswerSaysOf, AnswerSaysBy}
 use Rattle.tdl_top.specs.Due.{HoldsInputs, IsDueOf, IsDueBy, IsFault}
@@ -42,6 +46,9 @@ module _ (held : Held) (words : Words) where
 module _ (held : Held) (words : Words) (call : Call) where
   -- ---- the scenario
 
+  none_first : (f : Fault) → IsFirst f [] → ⊥
+  none_first f first = absurd (omega (arith, first.within.1))
+
   same_word : (w v : ℕ) → scenario_word call ≡ Some w → scenario_word call ≡ Some v → w ≡ v
   same_word w v x y = by_some (sym x ∙ y)
     where
@@ -60,11 +67,21 @@ module _ (held : Held) (words : Words) (call : Call) where
   later_once : (b : Bundle) (s t : Status) → ScenarioRefused (Some held) words call b s →
       ScenarioRefused (Some held) words call b t → s ≡ t
   later_once b (TooLong w) (TooLong v) x y = ap TooLong (same_word w v x.0 y.0)
-  later_once b (TooLong w) (BadForm v) x y = absurd (long_read w v y.1.bytes x.0 y.0 x.1 y.1.read)
-  later_once b (BadForm w) (TooLong v) x y = absurd (long_read v w x.1.bytes y.0 x.0 y.1 x.1.read)
-  later_once b (BadForm w) (BadForm v) x y = ap BadForm (same_word w v x.0 y.0)
+  later_once b (TooLong w) (BadScenario r l) x y = absurd (long_read w y.word y.bytes x.0 y.asked x.1 y.read)
+  later_once b (BadScenario r l) (TooLong v) x y = absurd (long_read v x.word x.bytes y.0 x.asked y.1 x.read)
+  later_once b (BadScenario r l) (BadScenario q k) x y =
+      let moved : IsRead (Some held) (word_at words y.word) SCENARIO_BYTES x.bytes =
+      subst (λ (w : ℕ). IsRead (Some held) (word_at words w) SCENARIO_BYTES x.bytes)
+      (same_word x.word y.word x.asked y.asked) x.read in
+      let same : x.bytes ≡ y.bytes =
+      same_bytes held (word_at words y.word) SCENARIO_BYTES x.bytes y.bytes moved y.read in
+      let fault : record { line = l; rule = r } ≡ record { line = k; rule = q } =
+      first_is_one (scenario_faults (bundle_names b) [] y.bytes) _ _
+      (subst (λ (c : List ℕ). IsFirst (record { line = l; rule = r }) (scenario_faults (bundle_names b) [] c)) same
+      x.first) y.first in
+      ap (λ (f : Fault). BadScenario f.rule f.line) fault
   later_once b (TooLong w) t x y = absurd y
-  later_once b (BadForm w) t x y = absurd y
+  later_once b (BadScenario r l) t x y = absurd y
   later_once b s t x y = absurd x
 
   -- the scenario that is asked for, at its word
@@ -78,11 +95,11 @@ module _ (held : Held) (words : Words) (call : Call) where
   later_asked b (TooLong w) x asked =
       let good = asked_at b w (scenario_word call) x.0 asked in
       not_long held (word_at words w) SCENARIO_BYTES good.1.bytes good.1.read x.1
-  later_asked b (BadForm w) x asked =
-      let good = asked_at b w (scenario_word call) x.0 asked in
-      x.1.other good.0
-      (subst (λ (c : List ℕ). IsScenarioOf (bundle_names b) c good.0)
-      (same_bytes held (word_at words w) SCENARIO_BYTES good.1.bytes x.1.bytes good.1.read x.1.read) good.1.plain)
+  later_asked b (BadScenario r l) x asked =
+      let good = asked_at b x.word (scenario_word call) x.asked asked in
+      let same = same_bytes held (word_at words x.word) SCENARIO_BYTES x.bytes good.1.bytes x.read good.1.read in
+      none_first _ (subst (λ (fs : List Fault). IsFirst (record { line = l; rule = r }) fs)
+      (ap (λ (c : List ℕ). scenario_faults (bundle_names b) [] c) same ∙ good.1.says.lawful) x.first)
   later_asked b s x asked = absurd x
 
   -- ---- one answer at most is due
@@ -144,6 +161,8 @@ module _ (files : FilesCall) (words : Words) (out : SinkCall) (held : Held) (e :
       inr (subst (λ (h : Option Held). IsRefused h words call (BadSyntax w l c)) e says.0)
   says_due_of call (BadProgram w r l c) says =
       inr (subst (λ (h : Option Held). IsRefused h words call (BadProgram w r l c)) e says.0)
+  says_due_of call (BadScenario r l) says =
+      inr (subst (λ (h : Option Held). IsRefused h words call (BadScenario r l)) e says.0)
   says_due_of call (BadBundle r a) says =
       inr (subst (λ (h : Option Held). IsRefused h words call (BadBundle r a)) e says.0)
   says_due_of call (BadForm w) says =

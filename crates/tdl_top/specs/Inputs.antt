@@ -1,11 +1,11 @@
 -- What the inputs of a call give: sources or a bundle, and a scenario.
-use Rattle.std.specs.Prelude.{◌≡◌, ℕ, List, Option, Some, None}
+use Rattle.std.specs.Prelude.{◌≡◌, ℕ, List, [], Option, Some, None}
 use Rattle.tdl_base.specs.declared.limits.TheConstants.{SCENARIO_BYTES, BUNDLE_BYTES}
 use Rattle.tdl_io.specs.Outside.{Held}
 use Rattle.tdl_scen.specs.declared.entries.Scenario.{Scenario}
-use Rattle.tdl_scen.specs.PlainScenario.{IsPlainScenario}
+use Rattle.tdl_scenario.specs.ReadScenario.{scenario_said}
+use Rattle.tdl_scenario.specs.Rules.{lines_said, scenario_faults}
 use Rattle.tdl_trace.specs.declared.names.Names.{Names}
-use Rattle.tdl_trace.specs.Lines.{module_name, sensor_name}
 use Rattle.tdl_tree.specs.declared.declarations.Tree.{Tree}
 use Rattle.tdl_image.specs.declared.bundle.Bundle.{Bundle}
 use Rattle.tdl_image.specs.Spelling.{bundle_bytes}
@@ -41,13 +41,14 @@ Gives holds words None bundle = ReadsBundle holds words bundle
 abbrev pub HasBundle : Option Held → Words → Call → Bundle → Type 0
 HasBundle holds words call bundle = Gives holds words (source_count call) bundle
 
--- the bytes are a plain scenario, of the first module and sensor of these names
-abbrev pub IsScenarioOf : Names → List ℕ → Scenario → Type 0
-IsScenarioOf names bytes scenario = IsPlainScenario (module_name names 0) (sensor_name names 0 0) bytes scenario
+-- the bytes break no rule of scenarios for these names, where there is no plant, and say this scenario
+pub record IsScenarioOf (names : Names) (bytes : List ℕ) (scenario : Scenario) : Type 0 where
+  pub lawful : scenario_faults names [] bytes ≡ []
+  pub said : scenario ≡ scenario_said (lines_said names [] bytes)
 
 -- the file at word w was read and is this scenario of the names
 pub record HasScenario (holds : Option Held) (words : Words) (names : Names) (w : ℕ) (scenario : Scenario) : Type 0
   where
     pub bytes : List ℕ
     pub read : IsRead holds (word_at words w) SCENARIO_BYTES bytes
-    pub plain : IsScenarioOf names bytes scenario
+    pub says : IsScenarioOf names bytes scenario

@@ -5,7 +5,8 @@ use Rattle.tdl_io.specs.Outside.{Held, IsLonger, Rose, HasNamedCause}
 use Rattle.tdl_mode.specs.declared.program.Program.{Program}
 use Rattle.tdl_rules.specs.Faults.{faults}
 use Rattle.tdl_scan.specs.Tokens.{IsTokenFault}
-use Rattle.tdl_scen.specs.declared.entries.Scenario.{Scenario}
+use Rattle.tdl_lines.specs.Faults.{IsFirst}
+use Rattle.tdl_scenario.specs.Rules.{scenario_faults}
 use Rattle.tdl_tree.specs.declared.declarations.Tree.{Tree}
 use Rattle.tdl_image.specs.declared.bundle.Bundle.{Bundle}
 use Rattle.tdl_image.specs.Spelling.{bundle_bytes}
@@ -15,11 +16,11 @@ use Rattle.tdl_verify.specs.Texts.{bundle_names}
 use Rattle.tdl_words.specs.declared.words.Call.{Call}
 use Rattle.tdl_words.specs.Words.{Words, word_at, words_from, source_count, scenario_word}
 use Rattle.tdl_report.specs.declared.status.Status.{Status}
-use Rattle.tdl_report.specs.declared.status.Status.TheVariants.{LoadFailed, TooLong, BadToken, BadSyntax, BadProgram, BadBundle, NoMemory, BadForm}
+use Rattle.tdl_report.specs.declared.status.Status.TheVariants.{LoadFailed, TooLong, BadToken, BadSyntax, BadProgram, BadScenario, BadBundle, NoMemory, BadForm}
 use Rattle.tdl_report.specs.Calls.{FilesCall}
 use Rattle.tdl_top.specs.Sources.{HasSyntaxFault, IsRead, AtSource, SayProgram, HaveFault, limit_of}
 use Rattle.tdl_top.specs.Taken.{AreRead}
-use Rattle.tdl_top.specs.Inputs.{IsSpellingOf, HasBundle, IsScenarioOf}
+use Rattle.tdl_top.specs.Inputs.{IsSpellingOf, HasBundle}
 
 -- the file of a name was read within the limit, and this holds of its bytes
 pub record ReadsSome (holds : Option Held) (name : List ℕ) (limit : ℕ) (is : List ℕ → Type 0) : Type 0 where
@@ -86,18 +87,20 @@ BundleRefused holds words status = ⊥
 
 -- ---- what the scenario is refused for
 
--- the file at word w was read and is no scenario of the bundle's names
-pub record HasNoScenario (holds : Option Held) (words : Words) (w : ℕ) (bundle : Bundle) : Type 0 where
-  pub bytes : List ℕ
-  pub read : IsRead holds (word_at words w) SCENARIO_BYTES bytes
-  pub other : (scenario : Scenario) → IsScenarioOf (bundle_names bundle) bytes scenario → ⊥
+-- the scenario that is asked for was read, and breaks a rule for the bundle's names, first this one in this line
+pub record BreaksScenario (holds : Option Held) (words : Words) (call : Call) (bundle : Bundle) (rule line : ℕ) : Type 0
+  where
+    pub word : ℕ
+    pub asked : scenario_word call ≡ Some word
+    pub bytes : List ℕ
+    pub read : IsRead holds (word_at words word) SCENARIO_BYTES bytes
+    pub first : IsFirst (record { line = line; rule = rule }) (scenario_faults (bundle_names bundle) [] bytes)
 
 -- where the sources or the first file gave this bundle, the scenario is refused with this answer
 abbrev pub ScenarioRefused : Option Held → Words → Call → Bundle → Status → Type 0
 ScenarioRefused holds words call bundle (TooLong w) =
     (scenario_word call ≡ Some w) × IsLonger holds (word_at words w) SCENARIO_BYTES
-ScenarioRefused holds words call bundle (BadForm w) =
-    (scenario_word call ≡ Some w) × HasNoScenario holds words w bundle
+ScenarioRefused holds words call bundle (BadScenario rule line) = BreaksScenario holds words call bundle rule line
 ScenarioRefused holds words call bundle status = ⊥
 
 -- ---- the first fault of the inputs
@@ -142,6 +145,7 @@ InputSays files words call (BadToken w line col) = IsRefused files.before.holds 
 InputSays files words call (BadSyntax w line col) = IsRefused files.before.holds words call (BadSyntax w line col)
 InputSays files words call (BadProgram w rule line col) =
     IsRefused files.before.holds words call (BadProgram w rule line col)
+InputSays files words call (BadScenario rule line) = IsRefused files.before.holds words call (BadScenario rule line)
 InputSays files words call (BadBundle rule at) = IsRefused files.before.holds words call (BadBundle rule at)
 InputSays files words call (BadForm w) = IsRefused files.before.holds words call (BadForm w)
 InputSays files words call NoMemory = ⊤

@@ -32,7 +32,11 @@ fn a_bundle_is_not_run(rt: HostRuntime) -> Result<(), Fail> {
     let cases = [
         Case {
             scenario: Some("horizon 10000\nsense Q.s 0 1\n"),
-            ..not_executed(&BUNDLE, Status::BadForm { word: 3 }, "tdl: form s\n")
+            ..not_executed(
+                &BUNDLE,
+                Status::BadScenario { rule: 2, line: 2 },
+                "tdl: scenario N2 line 2\n",
+            )
         },
         Case {
             scenario: None,

@@ -77,7 +77,7 @@ fn a_fault_of_the_error_sink_changes_nothing_else(rt: HostRuntime) -> Result<(),
         },
         Case {
             scenario: Some(""),
-            ..unsaid(Status::BadForm { word: 5 })
+            ..unsaid(Status::BadScenario { rule: 1, line: 1 })
         },
         Case {
             fail_files: &[3],

@@ -1,5 +1,4 @@
 ghost use Rattle.std.specs.Prelude.{◌≡◌, ◌≤◌, Some, None, IfOk, IfErr, length};
-ghost use Rattle.tdl_trace.specs.Lines.{module_name, sensor_name};
 ghost use Rattle.tdl_verify.specs.Texts.{bundle_names};
 ghost use Rattle.tdl_base.specs.declared.limits.TheConstants.{BUNDLE_BYTES};
 ghost use Rattle.tdl_image.specs.Spellable.{IsSpellable};
@@ -19,8 +18,10 @@ use tdl_decode::{BundleError, read_bundle as decode};
 use tdl_image::Bundle;
 use tdl_io::Files;
 use tdl_make::is_plain_bundle;
+use tdl_node::bundle_names as names_of;
 use tdl_report::Status;
-use tdl_scen::{PlainScenarioError, Scenario, read_plain_scenario};
+use tdl_scen::Scenario;
+use tdl_scenario::{ScenError, read_scen};
 use tdl_words::FILE_WORD;
 
 // The bundle that bytes spell.
@@ -57,25 +58,7 @@ pub fn read_bundle<F: Files>(
     Ok(bundle)
 }
 
-// The names of the module and of the sensor of a plain bundle.
-fn sensor_of(bundle: &Bundle) -> (&str, &str)
-    requires { IsPlainBundle bundle.now }
-    ensures owner { result.0.now ≡ module_name (bundle_names bundle.now) 0 }
-    ensures sensor { result.1.now ≡ sensor_name (bundle_names bundle.now) 0 0 }
-{
-    let Some(image) = bundle.images.get(0) else {
-        unreachable!()
-    };
-    let Some(host) = image.hosted.get(0) else {
-        unreachable!()
-    };
-    let Some(sensor) = host.sensors.get(0) else {
-        unreachable!()
-    };
-    (host.name.as_str(), sensor.name.as_str())
-}
-
-/// The scenario that word `at` names, for the bundle's sensor.
+/// The scenario that word `at` names, for the bundle's parts and no plant.
 pub fn read_scenario<F: Files>(
     alloc: Global,
     files: &mut F,
@@ -92,10 +75,13 @@ pub fn read_scenario<F: Files>(
     ensures loads { OnlyLoads (files_call F.told files.old files.new) }
 {
     let bytes = load(alloc, files, words, at, SCENARIO_BYTES)?;
-    let (owner, sensor) = sensor_of(bundle);
-    match read_plain_scenario(alloc, &bytes, owner, sensor) {
+    let names = names_of(alloc, bundle)?;
+    match read_scen(alloc, &bytes, &names, &[]) {
         Ok(scenario) => Ok(scenario),
-        Err(PlainScenarioError::NotPlain) => Err(Status::BadForm { word: at }),
-        Err(PlainScenarioError::NoMemory) => Err(Status::NoMemory),
+        Err(ScenError::BadScenario(fault)) => Err(Status::BadScenario {
+            rule: fault.rule,
+            line: fault.line,
+        }),
+        Err(ScenError::NoMemory) => Err(Status::NoMemory),
     }
 }

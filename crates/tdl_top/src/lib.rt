@@ -26,6 +26,8 @@ mod run_tests;
 #[cfg(test)]
 mod samples;
 #[cfg(test)]
+mod scenario_tests;
+#[cfg(test)]
 mod sources_tests;
 #[cfg(test)]
 mod syntax_tests;

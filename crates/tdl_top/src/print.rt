@@ -1,9 +1,7 @@
-ghost use Rattle.std.specs.Prelude.{◌≡◌, ◌≤◌, [], OnOk, IfErr};
-ghost use Rattle.std.specs.List.Sorted.{IsStrictlyIncreasing};
-ghost use Rattle.tdl_scen.specs.PlainScenario.{instants_of};
-ghost use Rattle.tdl_base.specs.declared.limits.TheConstants.{HORIZON_US};
+ghost use Rattle.std.specs.Prelude.{OnOk, IfErr};
 ghost use Rattle.tdl_io.specs.Outside.{Appends};
-ghost use Rattle.tdl_verify.specs.Texts.{bundle_text};
+ghost use Rattle.tdl_scenario.specs.LawfulScenario.{IsLawful};
+ghost use Rattle.tdl_verify.specs.Texts.{bundle_names, bundle_text};
 ghost use Rattle.tdl_make.specs.PlainBundle.{IsPlainBundle};
 ghost use Rattle.tdl_report.specs.Calls.{sink_call};
 ghost use Rattle.tdl_top.specs.Loads.{PrintSays};
@@ -24,16 +22,15 @@ pub fn print_run<O: Sink>(
     out: &mut O,
 ) -> Result<(), Status>
     requires plain { IsPlainBundle bundle.now }
-    requires times { scenario.now.times ≡ [] }
-    requires rising { IsStrictlyIncreasing (instants_of scenario.now.senses) }
-    requires end { scenario.now.horizon.0 ≤ HORIZON_US }
+    requires lawful { IsLawful (bundle_names bundle.now) scenario.now }
     ensures ok { OnOk result (Appends (O.told out.old).contents (O.told out.new).contents
         (bundle_text bundle.now scenario.now)) }
     ensures refused { IfErr result (PrintSays (sink_call O.told out.old out.new)
         (bundle_text bundle.now scenario.now)) }
 {
     let names = bundle_names(alloc, bundle)?;
-    let mut machine = HostMachine::begin(alloc, bundle)?;
+    let times = scenario.times.as_slice();
+    let mut machine = HostMachine::begin(alloc, bundle, times)?;
     let senses = scenario.senses.as_slice();
     let horizon = scenario.horizon.0;
     match run(alloc, bundle, &names, &mut machine, senses, horizon, out) {

@@ -27,10 +27,6 @@ fn a_source_is_run(rt: HostRuntime) -> Result<(), Fail> {
                 "tdl: syntax at P.tdl:1:1\n",
             )
         },
-        Case {
-            scenario: Some("horizon 1000001\n"),
-            ..refused(Status::BadForm { word: 5 }, "tdl: form s\n")
-        },
     ];
     for case in cases.iter() {
         try_case(&rt, rt.alloc(), case)?;
@@ -66,39 +62,6 @@ fn a_run_wraps_its_output(rt: HostRuntime) -> Result<(), Fail> {
         out.bytes(),
         b"0 n1 mode P main\n5000 n1 port P.inc.o -2147483648\n".as_slice()
     );
-    Ok(())
-}
-
-#[test]
-fn scenarios_are_read_line_by_line(rt: HostRuntime) -> Result<(), Fail> {
-    let cases = [
-        Case {
-            scenario: Some("horizon 10000\r\nsense\tP.s 0  1"),
-            ..good()
-        },
-        Case {
-            scenario: Some("# the input is 1\n\n \t\nsense P.s 0 1\nhorizon 10000\n"),
-            ..good()
-        },
-        Case {
-            scenario: Some("horizon 0\n"),
-            out: "0 n1 mode P main\n",
-            ..good()
-        },
-        Case {
-            scenario: Some("horizon 7499\nsense P.s 0 2147483647\n"),
-            out: "0 n1 mode P main\n5000 n1 port P.inc.o -2147483639\n",
-            ..good()
-        },
-        Case {
-            scenario: Some("horizon 10000\nsense P.s 5000 -2147483648\n"),
-            out: "0 n1 mode P main\n5000 n1 port P.inc.o 10\n10000 n1 port P.inc.o -2147483638\n",
-            ..good()
-        },
-    ];
-    for case in cases.iter() {
-        try_case(&rt, rt.alloc(), case)?;
-    }
     Ok(())
 }
 

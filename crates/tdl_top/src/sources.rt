@@ -1,6 +1,7 @@
-ghost use Rattle.std.specs.Prelude.{◌≡◌, ◌≤◌, [], Some, OnOk, IfOk, IfErr, length};
+ghost use Rattle.std.specs.Prelude.{◌≡◌, ◌≤◌, [], Some, OnOk, IfOk, IfErr, length, All};
 ghost use Rattle.tdl_base.specs.declared.limits.TheConstants.{SOURCES, SOURCE_BYTES};
 ghost use Rattle.tdl_rules.specs.Faults.{faults};
+ghost use Rattle.tdl_size.specs.Sized.{IsSized};
 ghost use Rattle.tdl_scan.specs.Tokens.{IsTokensOf};
 ghost use Rattle.tdl_make.specs.PlainBundle.{IsPlainBundle};
 ghost use Rattle.tdl_words.specs.declared.words.Call.{Call};
@@ -120,7 +121,8 @@ fn read_trees<F: Files>(
 
 // Refuses the trees of all sources where they break a rule of programs.
 fn keep_rules(alloc: Global, trees: &[Tree]) -> Result<(), Status>
-    requires { length trees.now ≤ SOURCES }
+    requires few { length trees.now ≤ SOURCES }
+    requires sized { All IsSized trees.now }
     ensures ok { OnOk result (faults trees.now ≡ []) }
     ensures refused { IfErr result (RulesSay trees.now) }
 {
@@ -138,7 +140,8 @@ fn keep_rules(alloc: Global, trees: &[Tree]) -> Result<(), Status>
 
 // The bundle of the trees of all sources.
 fn bundle_of(alloc: Global, trees: &[Tree]) -> Result<Bundle, Status>
-    requires { length trees.now ≤ SOURCES }
+    requires few { length trees.now ≤ SOURCES }
+    requires sized { All IsSized trees.now }
     ensures ok { IfOk result (SayBundle trees.now) }
     ensures plain { IfOk result (λ bundle. IsPlainBundle bundle) }
     ensures refused { IfErr result (FormSays trees.now) }

@@ -11,13 +11,14 @@ use Rattle.tdl_check.proofs.checking.check.Goals as goal
 pub program_of-requires : goal.program_of-requires
 program_of-requires c = record {
   kept = earliest-none (faults c.in_ok-sources.sources) (sym c.first_fault.ensures ∙ c.in-None.is);
-  few = subst (λ (sources : List Tree). length sources ≤ SOURCES) (sym c.in_ok-sources.ensures) c.requires;
+  few = subst (λ (sources : List Tree). length sources ≤ SOURCES) (sym c.in_ok-sources.ensures) c.requires.few;
 }
 
 pub invariant_of-result : goal.invariant_of-result
 invariant_of-result c =
     checked c.in_ok-sources.sources c.args.trees.now c.in_ok-program_of-in-None.field-0 c.in_ok-sources.ensures
-    c.requires (earliest-none (faults c.in_ok-sources.sources) (sym c.first_fault.ensures ∙ c.in-None.is))
+    c.requires.few c.requires.sized
+    (earliest-none (faults c.in_ok-sources.sources) (sym c.first_fault.ensures ∙ c.in-None.is))
     c.in_ok-program_of-in-None.ensures
 
 pub returns-in-None-clause-kept : goal.returns-in-None-clause-kept

@@ -62,8 +62,8 @@ returns-clause-ok c =
     ap (λ n. take n c.put_values.new.into) count
     ∙ c.put_values.ensures.values
     ∙ ap (λ (codes : List Code). map f codes) c.as_slice.ensures in
-    released-ok c.args.state.now.host c.args.scene.senses.now c.args.scene.at c.args.state.now.now
-    c.start.new.self.now c.args.release c.in-Some.release.now c.in-Some-get.call.now
+    released-ok c.args.state.now.host c.args.scene.times.now c.args.scene.senses.now c.args.scene.at
+    c.args.state.now.now c.start.new.self.now c.args.release c.in-Some.release.now c.in-Some-get.call.now
     (take c.len.result c.put_values.new.into) c.start.result er ec checked values c.start.ensures.absent
     c.start.ensures.started (slice_get c.args.state.now.host.tasks c.in-Some-get.call.now.task) refl
 
@@ -75,9 +75,9 @@ returns-clause-trapped c =
     IfErr-weaker c.start.result _ _
     (λ e busy. trap-of why.Busy (IsBusyAt c.in-Some-get.call.now.task c.args.state.now)
     (λ (reason : Why). (rows : List Shown) (pc : ℕ) →
-    acts c.args.state.now.host c.args.scene.senses.now c.args.scene.at rows c.args.state.now.now pc
-    (Release c.args.release) ≡ Acted.Stop reason)
+    acts c.args.state.now.host c.args.scene.times.now c.args.scene.senses.now c.args.scene.at rows c.args.state.now.now
+    pc (Release c.args.release) ≡ Acted.Stop reason)
     e busy
-    (λ at rows pc. released-busy c.args.state.now c.args.scene.senses.now c.args.scene.at rows pc c.args.release
-    c.in-Some.release.now c.in-Some-get.call.now er ec at))
+    (λ at rows pc. released-busy c.args.state.now c.args.scene.times.now c.args.scene.senses.now c.args.scene.at rows pc
+    c.args.release c.in-Some.release.now c.in-Some-get.call.now er ec at))
     c.start.ensures.busy

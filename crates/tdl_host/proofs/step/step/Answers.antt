@@ -13,15 +13,16 @@ use Rattle.tdl_host.proofs.step.step.Goals as goal
 
 pub returns-in_default-clause-ok : goal.returns-in_default-clause-ok
 returns-in_default-clause-ok c n =
-    step-finished (suc n) c.args.state.now.host c.args.scene.senses.now c.args.scene.at (spot_now c.args.standing)
-    c.args.state.now.now c.pick.new.state.now c.args.rows.now (λ go rows. c.in_default.ensures.place go rows)
+    step-finished (suc n) c.args.state.now.host c.args.scene.times.now c.args.scene.senses.now c.args.scene.at
+    (spot_now c.args.standing) c.args.state.now.now c.pick.new.state.now c.args.rows.now
+    (λ go rows. c.in_default.ensures.place go rows)
 
 pub returns-in_default-fetch-clause-trapped : goal.returns-in_default-fetch-clause-trapped
 returns-in_default-fetch-clause-trapped c n =
     let there : part_instr (Part.Host c.args.state.now.host c.pick.new.state.now ∷ []) 0 c.in-Some.place.block
     c.in-Some.place.pc ≡ None = search rules in
-    step-lost (suc n) c.args.state.now.host c.args.scene.senses.now c.args.scene.at (spot_now c.args.standing)
-    c.args.state.now.now c.pick.new.state.now c.args.rows.now c.in-Some.place
+    step-lost (suc n) c.args.state.now.host c.args.scene.times.now c.args.scene.senses.now c.args.scene.at
+    (spot_now c.args.standing) c.args.state.now.now c.pick.new.state.now c.args.rows.now c.in-Some.place
     (λ go rows. c.in-Some.ensures.place go rows)
     there
 
@@ -31,76 +32,77 @@ returns-in_err-pc-clause-trapped c =
     c.in-Some.place.pc ≡ Some c.in-Some-fetch.instr = search rules in
     let p = err_from_is_err_and c.from_residual.result c.from_residual.ensures.1 in
     rw (p.1, p.2) (trap-by
-    (λ (reason : Why). acts c.pick.new.state.host c.args.scene.senses.now c.args.scene.at c.args.rows.now
-    c.pick.new.state.now c.in-Some.place.pc c.in-Some-fetch.instr ≡ Acted.Stop reason)
+    (λ (reason : Why). acts c.pick.new.state.host c.args.scene.times.now c.args.scene.senses.now c.args.scene.at
+    c.args.rows.now c.pick.new.state.now c.in-Some.place.pc c.in-Some-fetch.instr ≡ Acted.Stop reason)
     (λ (reason : Why). (n : ℕ) →
-    host_turn (suc n) c.args.state.now.host c.args.scene.senses.now c.args.scene.at (spot_now c.args.standing)
-    c.args.state.now.now c.args.rows.now ≡ Turned.Trapped reason)
-    (λ reason e n. step-trapped n c.args.state.now.host c.args.scene.senses.now c.args.scene.at
+    host_turn (suc n) c.args.state.now.host c.args.scene.times.now c.args.scene.senses.now c.args.scene.at
+    (spot_now c.args.standing) c.args.state.now.now c.args.rows.now ≡ Turned.Trapped reason)
+    (λ reason e n. step-trapped n c.args.state.now.host c.args.scene.times.now c.args.scene.senses.now c.args.scene.at
     (spot_now c.args.standing) c.args.state.now.now c.pick.new.state.now c.args.rows.now c.in-Some.place
     c.in-Some-fetch.instr reason (λ go rows. c.in-Some.ensures.place go rows)
     there
-    (subst (λ (h : Hosted). acts h c.args.scene.senses.now c.args.scene.at c.args.rows.now c.pick.new.state.now
-    c.in-Some.place.pc c.in-Some-fetch.instr ≡ Acted.Stop reason) c.pick.ensures.host e))
+    (subst (λ (h : Hosted). acts h c.args.scene.times.now c.args.scene.senses.now c.args.scene.at c.args.rows.now
+    c.pick.new.state.now c.in-Some.place.pc c.in-Some-fetch.instr ≡ Acted.Stop reason) c.pick.ensures.host e))
     c.in_err-pc.field-0.0 c.in_err-pc.ensures.trapped)
 
 pub returns-in-On-clause-ok : goal.returns-in-On-clause-ok
 returns-in-On-clause-ok c n =
     let there : part_instr (Part.Host c.args.state.now.host c.pick.new.state.now ∷ []) 0 c.in-Some.place.block
     c.in-Some.place.pc ≡ Some c.in-Some-fetch.instr = search rules in
-    let e : acts c.args.state.now.host c.args.scene.senses.now c.args.scene.at c.args.rows.now c.pick.new.state.now
-    c.in-Some.place.pc c.in-Some-fetch.instr
+    let e : acts c.args.state.now.host c.args.scene.times.now c.args.scene.senses.now c.args.scene.at c.args.rows.now
+    c.pick.new.state.now c.in-Some.place.pc c.in-Some-fetch.instr
     ≡ went (next.On c.in-On.pc) c.args.state.now.host c.act.new.state.now c.act.new.rows = search rules in
-    step-went n c.args.state.now.host c.args.scene.senses.now c.args.scene.at (spot_now c.args.standing)
-    c.args.state.now.now c.pick.new.state.now c.act.new.state.now c.args.rows.now c.act.new.rows c.in-Some.place
-    c.in-Some-fetch.instr (next.On c.in-On.pc) (λ go rows. c.in-Some.ensures.place go rows)
-    there e
+    step-went n c.args.state.now.host c.args.scene.times.now c.args.scene.senses.now c.args.scene.at
+    (spot_now c.args.standing) c.args.state.now.now c.pick.new.state.now c.act.new.state.now c.args.rows.now
+    c.act.new.rows c.in-Some.place c.in-Some-fetch.instr (next.On c.in-On.pc)
+    (λ go rows. c.in-Some.ensures.place go rows) there e
 
 pub returns-in-On-clause-plain : goal.returns-in-On-clause-plain
 returns-in-On-clause-plain c =
-    let e : acts c.args.state.now.host c.args.scene.senses.now c.args.scene.at c.args.rows.now c.pick.new.state.now
-    c.in-Some.place.pc c.in-Some-fetch.instr
+    let e : acts c.args.state.now.host c.args.scene.times.now c.args.scene.senses.now c.args.scene.at c.args.rows.now
+    c.pick.new.state.now c.in-Some.place.pc c.in-Some-fetch.instr
     ≡ went (next.On c.in-On.pc) c.args.state.now.host c.act.new.state.now c.act.new.rows = search rules in
-    acts-plain c.args.state.now.host c.args.scene.senses.now c.args.scene.at c.args.rows.now c.act.new.rows
-    c.pick.new.state.now c.act.new.state.now c.in-Some.place.pc c.in-Some-fetch.instr (next.On c.in-On.pc) e
+    acts-plain c.args.state.now.host c.args.scene.times.now c.args.scene.senses.now c.args.scene.at c.args.rows.now
+    c.act.new.rows c.pick.new.state.now c.act.new.state.now c.in-Some.place.pc c.in-Some-fetch.instr
+    (next.On c.in-On.pc) e
 
 pub returns-in-Over-clause-ok : goal.returns-in-Over-clause-ok
 returns-in-Over-clause-ok c n =
     let there : part_instr (Part.Host c.args.state.now.host c.pick.new.state.now ∷ []) 0 c.in-Some.place.block
     c.in-Some.place.pc ≡ Some c.in-Some-fetch.instr = search rules in
-    let e : acts c.args.state.now.host c.args.scene.senses.now c.args.scene.at c.args.rows.now c.pick.new.state.now
-    c.in-Some.place.pc c.in-Some-fetch.instr
+    let e : acts c.args.state.now.host c.args.scene.times.now c.args.scene.senses.now c.args.scene.at c.args.rows.now
+    c.pick.new.state.now c.in-Some.place.pc c.in-Some-fetch.instr
     ≡ went next.Over c.args.state.now.host c.act.new.state.now c.act.new.rows = search rules in
-    step-went n c.args.state.now.host c.args.scene.senses.now c.args.scene.at (spot_now c.args.standing)
-    c.args.state.now.now c.pick.new.state.now c.act.new.state.now c.args.rows.now c.act.new.rows c.in-Some.place
-    c.in-Some-fetch.instr next.Over (λ go rows. c.in-Some.ensures.place go rows)
+    step-went n c.args.state.now.host c.args.scene.times.now c.args.scene.senses.now c.args.scene.at
+    (spot_now c.args.standing) c.args.state.now.now c.pick.new.state.now c.act.new.state.now c.args.rows.now
+    c.act.new.rows c.in-Some.place c.in-Some-fetch.instr next.Over (λ go rows. c.in-Some.ensures.place go rows)
     there e
 
 pub returns-in-Over-clause-plain : goal.returns-in-Over-clause-plain
 returns-in-Over-clause-plain c =
-    let e : acts c.args.state.now.host c.args.scene.senses.now c.args.scene.at c.args.rows.now c.pick.new.state.now
-    c.in-Some.place.pc c.in-Some-fetch.instr
+    let e : acts c.args.state.now.host c.args.scene.times.now c.args.scene.senses.now c.args.scene.at c.args.rows.now
+    c.pick.new.state.now c.in-Some.place.pc c.in-Some-fetch.instr
     ≡ went next.Over c.args.state.now.host c.act.new.state.now c.act.new.rows = search rules in
-    acts-plain c.args.state.now.host c.args.scene.senses.now c.args.scene.at c.args.rows.now c.act.new.rows
-    c.pick.new.state.now c.act.new.state.now c.in-Some.place.pc c.in-Some-fetch.instr next.Over e
+    acts-plain c.args.state.now.host c.args.scene.times.now c.args.scene.senses.now c.args.scene.at c.args.rows.now
+    c.act.new.rows c.pick.new.state.now c.act.new.state.now c.in-Some.place.pc c.in-Some-fetch.instr next.Over e
 
 pub returns-in-On-clause-released : goal.returns-in-On-clause-released
 returns-in-On-clause-released c bound n =
-    let e : acts c.args.state.now.host c.args.scene.senses.now c.args.scene.at c.args.rows.now c.pick.new.state.now
-    c.in-Some.place.pc c.in-Some-fetch.instr
+    let e : acts c.args.state.now.host c.args.scene.times.now c.args.scene.senses.now c.args.scene.at c.args.rows.now
+    c.pick.new.state.now c.in-Some.place.pc c.in-Some-fetch.instr
     ≡ went (next.On c.in-On.pc) c.args.state.now.host c.act.new.state.now c.act.new.rows = search rules in
-    acts-counted bound c.args.state.now.host c.args.scene.senses.now c.args.scene.at c.args.rows.now c.act.new.rows
-    c.pick.new.state.now c.act.new.state.now c.in-Some.place.pc c.in-Some-fetch.instr (next.On c.in-On.pc) e
-    (counted-same bound c.args.state.now.now c.pick.new.state.now c.pick.ensures.tasks n)
+    acts-counted bound c.args.state.now.host c.args.scene.times.now c.args.scene.senses.now c.args.scene.at
+    c.args.rows.now c.act.new.rows c.pick.new.state.now c.act.new.state.now c.in-Some.place.pc c.in-Some-fetch.instr
+    (next.On c.in-On.pc) e (counted-same bound c.args.state.now.now c.pick.new.state.now c.pick.ensures.tasks n)
 
 pub returns-in-Over-clause-released : goal.returns-in-Over-clause-released
 returns-in-Over-clause-released c bound n =
-    let e : acts c.args.state.now.host c.args.scene.senses.now c.args.scene.at c.args.rows.now c.pick.new.state.now
-    c.in-Some.place.pc c.in-Some-fetch.instr
+    let e : acts c.args.state.now.host c.args.scene.times.now c.args.scene.senses.now c.args.scene.at c.args.rows.now
+    c.pick.new.state.now c.in-Some.place.pc c.in-Some-fetch.instr
     ≡ went next.Over c.args.state.now.host c.act.new.state.now c.act.new.rows = search rules in
-    acts-counted bound c.args.state.now.host c.args.scene.senses.now c.args.scene.at c.args.rows.now c.act.new.rows
-    c.pick.new.state.now c.act.new.state.now c.in-Some.place.pc c.in-Some-fetch.instr next.Over e
-    (counted-same bound c.args.state.now.now c.pick.new.state.now c.pick.ensures.tasks n)
+    acts-counted bound c.args.state.now.host c.args.scene.times.now c.args.scene.senses.now c.args.scene.at
+    c.args.rows.now c.act.new.rows c.pick.new.state.now c.act.new.state.now c.in-Some.place.pc c.in-Some-fetch.instr
+    next.Over e (counted-same bound c.args.state.now.now c.pick.new.state.now c.pick.ensures.tasks n)
 
 pub returns-in_default-clause-released : goal.returns-in_default-clause-released
 returns-in_default-clause-released c bound n =

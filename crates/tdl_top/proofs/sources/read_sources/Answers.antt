@@ -1,4 +1,4 @@
-use Rattle.std.proofs.Common.{◌≤◌, ℕ, List, length, subst, sym}
+use Rattle.std.proofs.Common.{◌≤◌, ℕ, List, All, length, subst, sym}
 use Rattle.std.proofs.lemmas.Result.{err_from_is_err_and, IfOk-weaker, IfErr-weaker}
 use Rattle.tdl_base.specs.declared.limits.TheConstants.{SOURCES}
 use Rattle.tdl_tree.specs.declared.declarations.Tree.{Tree}
@@ -6,7 +6,8 @@ use Rattle.tdl_words.specs.Words.{texts}
 use Rattle.tdl_report.specs.Calls.{files_call}
 use Rattle.tdl_top.specs.Loads.{FormSays}
 use Rattle.tdl_top.specs.Taken.{SayBundle}
-use Rattle.tdl_top.proofs.InTurn.{read_count}
+use Rattle.tdl_size.specs.Sized.{IsSized}
+use Rattle.tdl_top.proofs.InTurn.{read_count, read_sized}
 use Rattle.tdl_top.proofs.InputsSay.{sources_input, form_input}
 use Rattle.tdl_top.proofs.sources.read_sources.Goals as goal
 
@@ -21,8 +22,13 @@ pub bundle_of-requires : goal.bundle_of-requires
 bundle_of-requires g c =
     let counted = read_count (g.F.Files.told c.args.files.now).holds (texts c.args.words.now) c.args.count
     c.in_ok-trees.trees c.in_ok-trees.ensures.ok in
-    subst (λ (trees : List Tree). length trees ≤ SOURCES) (sym c.as_slice.ensures)
-    (subst (λ (n : ℕ). n ≤ SOURCES) (sym counted) c.requires)
+    let sized = read_sized (g.F.Files.told c.args.files.now).holds (texts c.args.words.now) c.args.count
+    c.in_ok-trees.trees c.in_ok-trees.ensures.ok in
+    record {
+      few = subst (λ (trees : List Tree). length trees ≤ SOURCES) (sym c.as_slice.ensures)
+          (subst (λ (n : ℕ). n ≤ SOURCES) (sym counted) c.requires);
+      sized = subst (λ (trees : List Tree). All IsSized trees) (sym c.as_slice.ensures) sized;
+    }
 
 pub returns-clause-ok : goal.returns-clause-ok
 returns-clause-ok g c =

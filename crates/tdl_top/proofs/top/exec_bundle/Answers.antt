@@ -2,7 +2,9 @@ use Rattle.std.proofs.Common.{refl, ◌∙◌}
 use Rattle.std.proofs.lemmas.Result.{err_from_is_err_and, on_ok_weaker, IfErr-weaker}
 use Rattle.tdl_words.specs.declared.words.Call.TheVariants.{Exec}
 use Rattle.tdl_top.proofs.InputsSay.{says_earlier, input_not_ok, input_no_save, scenario_since, bundle_still}
-use Rattle.tdl_top.proofs.Saying.{says_input, says_done, says_part}
+use Rattle.tdl_top.proofs.Done.{lawful_for}
+use Rattle.tdl_top.proofs.Saying.{says_input, says_done, says_part, print_not_ok, print_no_save}
+use Rattle.tdl_verify.specs.Texts.{bundle_names}
 use Rattle.tdl_top.proofs.top.exec_bundle.Goals as goal
 
 pub returns-in_err-bundle-clause-refused : goal.returns-in_err-bundle-clause-refused
@@ -70,3 +72,16 @@ returns-clause-refused g c =
     (scenario_since (g.F.Files.told c.args.files.now) (g.F.Files.told c.read_bundle.new.files) _ _ _ _
     c.read_bundle.ensures.loads c.in_ok-scenario.ensures.ok) says)
     c.print_run.ensures.refused
+
+pub print_run-requires-clause-lawful : goal.print_run-requires-clause-lawful
+print_run-requires-clause-lawful g c =
+    lawful_for (bundle_names c.in_ok-bundle.bundle) c.in_ok-scenario.ensures.ok.bytes c.in_ok-scenario.scenario
+    c.in_ok-scenario.ensures.ok.says
+
+pub returns-clause-not_ok : goal.returns-clause-not_ok
+returns-clause-not_ok g c =
+    IfErr-weaker c.print_run.result _ _ (λ status says. print_not_ok _ _ status says) c.print_run.ensures.refused
+
+pub returns-clause-not_save : goal.returns-clause-not_save
+returns-clause-not_save g c = λ w.
+    IfErr-weaker c.print_run.result _ _ (λ status says. print_no_save _ _ status says w) c.print_run.ensures.refused

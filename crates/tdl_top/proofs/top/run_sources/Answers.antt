@@ -6,6 +6,8 @@ use Rattle.tdl_words.specs.Words.{texts, word_at}
 use Rattle.tdl_report.specs.Calls.{files_call}
 use Rattle.tdl_top.proofs.Loading.{loads_then}
 use Rattle.tdl_top.proofs.InputsSay.{says_earlier, input_not_ok, input_no_save, scenario_since, bundle_still}
+use Rattle.tdl_verify.specs.Texts.{bundle_names}
+use Rattle.tdl_top.proofs.Done.{lawful_for}
 use Rattle.tdl_top.proofs.Saying.{says_input, says_save, says_done, says_part, others_since, save_not_ok, print_not_ok, print_no_save}
 use Rattle.tdl_top.proofs.Reported.{told_quiet}
 use Rattle.tdl_top.proofs.top.run_sources.Goals as goal
@@ -141,3 +143,8 @@ returns-clause-told g c =
 pub returns-clause-quiet : goal.returns-clause-quiet
 returns-clause-quiet g c =
     on_ok_weaker c.print_run.result (λ printed. c.in_ok-save_bundle.ensures.quiet) c.print_run.ensures.ok
+
+pub print_run-requires-clause-lawful : goal.print_run-requires-clause-lawful
+print_run-requires-clause-lawful g c =
+    lawful_for (bundle_names c.in_ok-bundle.bundle) c.in_ok-scenario.ensures.ok.bytes c.in_ok-scenario.scenario
+    c.in_ok-scenario.ensures.ok.says

@@ -16,9 +16,12 @@ first-requires c =
 
 pub invariant_of-result : goal.invariant_of-result
 invariant_of-result c =
-    let count : length c.in_ok-numbers.numbers.items ≡ c.most_arguments.result = search rules in
-    room-of c.in-Some-get.hosted.now c.in_ok-state.state.host c.as_slice.result.now c.most_arguments.result
-    (length c.in_ok-numbers.numbers.items) c.in_ok-state.ensures.host c.as_slice.ensures c.most_arguments.ensures count
+    let count : length c.in_ok-numbers.numbers.items ≡ c.most_arguments.result = search rules in (
+      room-of c.in-Some-get.hosted.now c.in_ok-state.state.host c.as_slice.result.now c.most_arguments.result
+          (length c.in_ok-numbers.numbers.items) c.in_ok-state.ensures.host c.as_slice.ensures c.most_arguments.ensures
+          count,
+      c.requires.lasting,
+    )
 
 pub returns-clause-ready : goal.returns-clause-ready
 returns-clause-ready c =

@@ -1,9 +1,10 @@
-use Rattle.std.proofs.Common.{◌≡◌, ◌<◌, ◌≤◌, ◌-◌, ◌^◌, ◌∙◌, List, false, rules, arith, length, slice_get, Some, None, ap, sym, refl}
+use Rattle.std.proofs.Common.{◌≡◌, suc, ◌<◌, ◌≤◌, ◌-◌, ◌^◌, ◌∙◌, List, false, rules, arith, length, slice_get, Some, None, ap, sym, refl}
 use Rattle.std.proofs.lemmas.Result.{IfErr-weaker, on_ok_weaker}
 use Rattle.tdl_trace.specs.declared.why.Why.TheVariants as why
+use Rattle.tdl_scen.specs.Scenario.{time_of}
 use Rattle.tdl_image.specs.declared.hosted.TaskTable.{TaskTable}
 use Rattle.tdl_verify.specs.States.{TaskNow}
-use Rattle.tdl_host.specs.Hosts.{TaskView, HostedNow, IsBusyAt, is_idle}
+use Rattle.tdl_host.specs.Hosts.{TaskView, HostedNow, IsBusyAt, is_idle, with_job}
 use Rattle.tdl_host.proofs.CheckedLemmas.{all-at}
 use Rattle.tdl_host.proofs.ListSteps.{there, mapped-kept}
 use Rattle.tdl_host.proofs.StateLemmas.{table-there, state-there, own-table, no-table, started-at, busy-at, both-ok, trap-weaker}
@@ -64,11 +65,16 @@ returns-clause-started c =
     let at : slice_get c.self.inside.tasks.items c.args.task ≡ Some c.index_mut-own.result.now =
     there c.self.inside.tasks.items c.args.task u lt (search rules) in
     let put : c.from-place.result ≡ c.args.task = c.from-place.ensures in
+    let timed : with_job u.table c.args.release c.next_time-time.result c.args.inputs.now u.now
+    ≡ with_job u.table c.args.release
+    (time_of c.args.times.now u.table.worst c.args.self.now.host.number.0 c.args.task (suc u.now.released))
+    c.args.inputs.now u.now = search rules in
     rw put (both-ok c.start.result
     (λ idle now table is. started-at _ c.args.self.now.now c.self.inside.tasks.items c.args.task c.args.release
-    c.args.inputs.now table u c.start.new.self (ap (λ (s : HostedNow). s.now) c.self.view_is) refl at
+    (λ (k : TaskTable). time_of c.args.times.now k.worst c.args.self.now.host.number.0 c.args.task) c.args.inputs.now
+    table u c.start.new.self (ap (λ (s : HostedNow). s.now) c.self.view_is) refl at
     (own-table c.self.inside.tasks.items c.self.inside.hosted.now.tasks c.args.task u table c.self.invariant.1 at
-    (ap (λ (s : HostedNow). slice_get s.host.tasks c.args.task) c.self.view_is ∙ is)) idle now)
+    (ap (λ (s : HostedNow). slice_get s.host.tasks c.args.task) c.self.view_is ∙ is)) idle (now ∙ timed))
     c.start.ensures.idle c.start.ensures.started)
 
 pub returns-clause-busy : goal.returns-clause-busy

@@ -16,12 +16,11 @@ returns-in-Idle-clause-started c =
     seated-slot (cells_of_table c.self.inside.table.now) c.self.inside.slot (job.Idle c.in-Idle.idle)
     c.self.invariant.seated was in
     let outputs : c.deref.result.now ≡ c.self.inside.outputs.items = search rules in
-    let exec : c.from.result ≡ c.self.inside.table.now.worst = search rules in
     let slot : slot_now c.put.new.place
-    ≡ Slot.Ready c.args.release.mode c.args.release.invocation c.from.result
+    ≡ Slot.Ready c.args.release.mode c.args.release.invocation c.args.time
     (released c.in-Idle.idle c.args.inputs.now c.deref.result.now) =
     ap (λ (o : Option JobSlot). slot_now o) now
     ∙ ap (λ (r : ReadyJob). slot_now (Some (job.Ready r))) c.release-ready.ensures in
     starts _ c.args.self.now c.args.release c.args.inputs.now c.deref.result.now (slot_now c.put.new.place) _
-    c.from.result c.in-Idle.idle c.self.view_is c.requires.count c.self.invariant.count cells outputs exec slot
+    c.args.time c.in-Idle.idle c.self.view_is c.requires.count c.self.invariant.count cells outputs slot
     (add-one c.self.inside.released)

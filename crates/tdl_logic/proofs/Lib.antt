@@ -1,0 +1,11 @@
+pub mod Filling
+pub mod Ending
+pub mod Placing
+pub mod Passing
+pub mod Arguments
+pub mod Releasing
+pub mod Seeing
+pub mod Standings
+pub mod PhaseSteps
+pub mod Readying
+pub mod Nexts

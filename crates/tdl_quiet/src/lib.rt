@@ -1,0 +1,4 @@
+//! Between two events the logical execution neither changes nor shows anything (specs/).
+#![tactic(auto)]
+
+pub mod laws;

@@ -1,0 +1,9 @@
+pub mod GrainOf
+pub mod Afar
+pub mod Meeting
+pub mod Gaps
+pub mod Broken
+pub mod Faults
+pub mod Granted
+pub mod Matched
+pub mod Samples
